@@ -1,0 +1,6 @@
+pub mod Faults
+pub mod Reading
+pub mod Names
+pub mod Grammars
+pub mod Encoding
+pub mod Laws

@@ -1,1 +1,13 @@
 pub mod Loops
+pub mod Series
+pub mod Fields
+pub mod Equality
+pub mod Positions
+pub mod PositionAppend
+pub mod Sections
+pub mod Fitting
+pub mod Exact
+pub mod Standing
+pub mod Outcomes
+pub mod FieldFaults
+pub mod Refusals

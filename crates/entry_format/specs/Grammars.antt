@@ -74,14 +74,18 @@ module _ (checks : NameChecks) where
   readDeclarations low high earlier l =
       andThen (readLimited low high l) (λ n l₁. series (readDeclaration earlier) n [] l₁)
 
-  -- a production behind those of `done`, whose right-side names count towards the limit of 1,024
-  abbrev pub readProduction : List NameModel → List ProductionModel → Input → Parsed LoadFault ProductionModel
-  readProduction nonterminals done l =
+  -- a production behind `used` right-side names, which count towards the limit of 1,024
+  abbrev pub readProductionAfter : List NameModel → ℕ → Input → Parsed LoadFault ProductionModel
+  readProductionAfter nonterminals used l =
       andThen (lift (readName l)) (λ left l₁.
       andThen (checked (checks .leftSide nonterminals left) l₁) (λ nonterminal l₂.
-      andThen (readLimited 0 (1024 - length (references done)) l₂) (λ n l₃.
+      andThen (readLimited 0 (1024 - used) l₂) (λ n l₃.
       andThen (lift (series (λ _. readName) n [] l₃)) (λ right l₄.
       got (record { left = left; nonterminal = nonterminal; right = right }) l₄))))
+
+  -- a production behind those of `done`
+  abbrev pub readProduction : List NameModel → List ProductionModel → Input → Parsed LoadFault ProductionModel
+  readProduction nonterminals done l = readProductionAfter nonterminals (length (references done)) l
 
   -- a count and that many productions
   abbrev pub readProductions : List NameModel → Input → Parsed LoadFault (List ProductionModel)

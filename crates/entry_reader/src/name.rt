@@ -7,7 +7,7 @@ ghost use Rattle.entry_reader.specs.Reads.{nameOf};
 const COMPARED: usize = 16;
 
 // A name of an entry file: its bytes, a part of the file, and its place, which is that of its length byte.
-#[derive(Clone, Copy, Debug)]
+#[derive(Clone, Copy)]
 pub struct Name<'a> {
     pub(crate) text: &'a str,
     pub(crate) place: usize,

@@ -1,0 +1,3 @@
+pub mod Vectors
+pub mod Tiling
+pub mod Whole

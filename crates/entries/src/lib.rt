@@ -1,0 +1,5 @@
+// Entry files, loaded.
+mod fields;
+pub mod grammar;
+mod lookup;
+pub mod production;

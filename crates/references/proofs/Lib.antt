@@ -1,0 +1,2 @@
+pub mod FirstAnswers
+pub mod Resolved

@@ -1,0 +1,5 @@
+pub mod Resolution
+pub mod Remembered
+pub mod Memoization
+pub mod MemoLaws
+pub mod Halves

@@ -1,9 +1,9 @@
 -- Right sides that lie one behind the other. Assumes nothing.
 use mathlib.Core.Path.{_≡_, refl, sym, ap, subst, _∙_}
 use mathlib.Core.List.{List, [], _∷_, _++_, map}
-use Prim.Native.Nat.{ℕ, _+_, _≤_}
+use Prim.Native.Nat.{ℕ, zero, suc, _+_, _≤_, _<_}
 use native.Mathlib.Omega.{arith}
-use lib.ListN.{length, take, drop, length-drop, take-append-drop}
+use lib.ListN.{length, getD, take, drop, length-drop, take-append-drop}
 use Rattle.std.specs.declared.alloc.Global.{Global}
 use Rattle.std.specs.declared.vec.Vec.{Vec}
 use Rattle.std.specs.Of.Vec.{vec-items, vec-len}
@@ -18,6 +18,12 @@ use Rattle.entries.specs.Loaded.{productionOf, productionsOf, Tiles, Adds}
 tiles-le : (at : ℕ) (ps : List Production) (n : ℕ) → Tiles at ps n → at ≤ n
 tiles-le at [] n h = omega arith
 tiles-le at (p ∷ ps) n h = let k = tiles-le (at + p .len) ps n (h .1) in omega arith
+
+-- a right side lies within the references
+pub tile-within : (at : ℕ) (ps : List Production) (n i : ℕ) (d : Production) → Tiles at ps n → i < length ps → getD ps i d .first + getD ps i d .len ≤ n
+tile-within at [] n i d h lt = absurd (omega arith)
+tile-within at (p ∷ ps) n zero d h lt = let k = tiles-le (at + p .len) ps n (h .1) in omega arith
+tile-within at (p ∷ ps) n (suc i) d h lt = tile-within (at + p .len) ps n i d (h .1) (omega arith)
 
 tiles-push : (at : ℕ) (ps : List Production) (p : Production) (n m : ℕ) → Tiles at ps n → p .first ≡ n → m ≡ n + p .len → Tiles at (ps ++ p ∷ []) m
 tiles-push at [] p n m h e f = (omega arith, omega arith)

@@ -1,3 +1,4 @@
 pub mod Fields
 pub mod Loaded
 pub mod Models
+pub mod Resolving

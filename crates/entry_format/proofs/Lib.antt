@@ -11,3 +11,6 @@ pub mod Standing
 pub mod Outcomes
 pub mod FieldFaults
 pub mod Refusals
+pub mod Alike
+pub mod AlikeFields
+pub mod Fronts

@@ -62,6 +62,26 @@ abbrev pub Refusals-tell : Type 0
 Refusals-tell =
     (file : List ℕ) (e : LoadFault) → Bytes file → loadGrammar loaderChecks file ≡ Err e → Tells file e
 
+-- how many places from the front show the fault: through the wrong byte, the place that has none as the file ends there, or the count or the name that is at fault
+abbrev pub shownBy : List ℕ → LoadFault → ℕ
+shownBy file (Read e) = placeOf (Read e) + 1
+shownBy file (Names e) = placeOf (Names e) + 1 + getD file (placeOf (Names e)) 0
+shownBy file (WrongKind p) = p + 1
+shownBy file (OverLimit p) = p + 2
+shownBy file (TrailingBytes p) = p + 1
+
+-- another file that has the same in the places that show the fault is refused with the same fault: nothing behind them matters
+abbrev pub Same-front-same-refusal : Type 0
+Same-front-same-refusal =
+    (file other : List ℕ) (e : LoadFault) → loadGrammar loaderChecks file ≡ Err e →
+    take (shownBy file e) other ≡ take (shownBy file e) file → loadGrammar loaderChecks other ≡ Err e
+
+-- no file of a lawful grammar has the same in the places that show the fault
+abbrev pub No-encoding-begins-so : Type 0
+No-encoding-begins-so =
+    (file : List ℕ) (e : LoadFault) → loadGrammar loaderChecks file ≡ Err e →
+    (g : GrammarModel) → Lawful g → take (shownBy file e) (encodeGrammar g) ≡ take (shownBy file e) file → ⊥
+
 -- in a list of distinct names a name equals at most one, and its position is that one's
 abbrev pub Position-is-unique : Type 0
 Position-is-unique =

@@ -4,3 +4,4 @@ pub mod grammar;
 mod lookup;
 pub mod production;
 pub mod resolver;
+pub mod sample;

@@ -14,3 +14,4 @@ pub mod Refusals
 pub mod Alike
 pub mod AlikeFields
 pub mod Fronts
+pub mod Meaning

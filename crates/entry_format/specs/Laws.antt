@@ -7,6 +7,7 @@ use Prim.Native.Nat.{ℕ, _+_, _≤_, _<_}
 use lib.ListN.{length, take, drop, getD}
 use Rattle.std.specs.shelf.Lists.{All}
 use Rattle.std.specs.declared.option.Option.the-variants.{Some, None}
+use Rattle.std.specs.declared.result.Result.{Result}
 use Rattle.std.specs.declared.result.Result.the-variants.{Ok, Err}
 use Rattle.entry_format.specs.declared.fault.LoadFault.{LoadFault}
 use Rattle.entry_format.specs.declared.fault.LoadFault.the-variants.{Read, Names, WrongKind, OverLimit, TrailingBytes}
@@ -81,6 +82,25 @@ abbrev pub No-encoding-begins-so : Type 0
 No-encoding-begins-so =
     (file : List ℕ) (e : LoadFault) → loadGrammar loaderChecks file ≡ Err e →
     (g : GrammarModel) → Lawful g → take (shownBy file e) (encodeGrammar g) ≡ take (shownBy file e) file → ⊥
+
+-- what it means that a file is answered with x, a grammar or a fault
+pub record LoadMeaning (file : List ℕ) (x : Result GrammarModel LoadFault) : Type 0 where
+  -- the answer is g exactly when the file is the encoding of g and g is lawful
+  pub exact : (g : GrammarModel) → (x ≡ Ok g) ↔ ((file ≡ encodeGrammar g) × Lawful g)
+  -- each name of the grammar is the part of the file at its place
+  pub names : (g : GrammarModel) → x ≡ Ok g → All (StandsIn file) (allNames g)
+  -- the fault says what is so of the file
+  pub tells : (e : LoadFault) → x ≡ Err e → Tells file e
+  -- another file that begins with the bytes that show the fault is refused with the same fault
+  pub first : (e : LoadFault) → x ≡ Err e → (other : List ℕ) →
+      take (shownBy file e) other ≡ take (shownBy file e) file → loadGrammar loaderChecks other ≡ Err e
+  -- and so the file of no lawful grammar begins with those bytes
+  pub never : (e : LoadFault) → x ≡ Err e → (g : GrammarModel) → Lawful g →
+      take (shownBy file e) (encodeGrammar g) ≡ take (shownBy file e) file → ⊥
+
+-- that is what every file's answer means
+abbrev pub Loading-means : Type 0
+Loading-means = (file : List ℕ) → Bytes file → LoadMeaning file (loadGrammar loaderChecks file)
 
 -- in a list of distinct names a name equals at most one, and its position is that one's
 abbrev pub Position-is-unique : Type 0

@@ -4,3 +4,4 @@ pub mod Names
 pub mod Grammars
 pub mod Encoding
 pub mod Laws
+pub mod Samples

@@ -5,6 +5,7 @@ ghost use Prim.Native.Nat.{_≤_};
 ghost use Rattle.std.specs.Of.Vec.{vec-items, vec-len, vec-cap};
 ghost use Rattle.std.specs.Vec.{made};
 ghost use Rattle.entry_format.specs.Grammars.{loaderChecks, loadGrammar, readProductionAfter, readProductions};
+ghost use Rattle.entry_format.specs.Laws.{LoadMeaning};
 ghost use Rattle.entry_reader.specs.Reads.{inputOf, nameOf, reads};
 ghost use Rattle.entries.specs.Fields.{namesOf};
 ghost use Rattle.entries.specs.Loaded.{productionOf, productionsOf, Tiles, Adds};
@@ -94,6 +95,7 @@ fn read_grammar<'a>(file: &'a [u8], memory: GrammarMemory<'a>) -> Result<Grammar
 // The grammar of a file, or the first fault in reading order.
 pub fn load_grammar<'a>(file: &'a [u8], memory: GrammarMemory<'a>) -> Result<Grammar<'a>, LoadFault>
     ensures value { λ r. ⌜ answered grammarOf r ≡ loadGrammar loaderChecks (now (file .entry)) ⌝ }
+    ensures meaning { λ r. ⌜ LoadMeaning (now (file .entry)) (answered grammarOf r) ⌝ }
 {
     read_grammar(file, memory)
 }

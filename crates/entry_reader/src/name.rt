@@ -1,6 +1,7 @@
 // Names, which are parts of the entry file.
 ghost use mathlib.Core.Path.{_≡_};
-ghost use Rattle.entry_format.specs.Names.{sameName};
+ghost use Rattle.std.specs.Orderings.{Decides};
+ghost use Rattle.entry_format.specs.Names.{EqualTexts, NameEquality, sameName};
 ghost use Rattle.entry_reader.specs.Reads.{nameOf};
 
 // The number of bytes in which long names are compared.
@@ -29,7 +30,9 @@ impl<'a> Name<'a> {
 
     // Whether the names are equal: both have 16 bytes or more and agree in the first 16, or both are shorter and the same.
     pub fn equals(&self, other: &Name) -> bool
-        ensures { λ r. ⌜ r ≡ sameName (nameOf (now (self .entry))) (nameOf (now (other .entry))) ⌝ }
+        ensures value { λ r. ⌜ r ≡ sameName (nameOf (now (self .entry))) (nameOf (now (other .entry))) ⌝ }
+        ensures decides { λ r. ⌜ Decides r (EqualTexts (nameOf (now (self .entry)) .text) (nameOf (now (other .entry)) .text)) ⌝ }
+        ensures equivalence { λ _. ⌜ NameEquality ⌝ }
     {
         let a = self.text.as_bytes();
         let b = other.text.as_bytes();

@@ -3,6 +3,7 @@ ghost use Prim.Native.Nat.{_+_, _^_, _<_};
 ghost use lib.ListN.{length};
 
 pub mod fields;
+pub mod position;
 
 // The bytes that are still to be read, and the place of the first of them in the file.
 #[derive(Drop)]

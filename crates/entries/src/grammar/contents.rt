@@ -72,10 +72,10 @@ impl<'a> Grammar<'a> {
     pub fn symbol_of(&self, name: &Name) -> Option<usize>
         ensures { λ r. ⌜ r ≡ position (symbols (grammarOf (now (self .entry)))) (nameOf (now (name .entry))) ⌝ }
     {
-        if let Some(i) = position_of(self.terminals.as_slice(), name) {
+        if let Some(i) = position_of(&self.terminals, name) {
             return Some(i);
         }
-        match position_of(self.nonterminals.as_slice(), name) {
+        match position_of(&self.nonterminals, name) {
             Some(i) => Some(self.terminals.len() + i),
             None => None,
         }

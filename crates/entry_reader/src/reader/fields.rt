@@ -2,10 +2,9 @@
 ghost use mathlib.Core.Path.{_≡_};
 ghost use mathlib.Core.List.{[]};
 ghost use Prim.Native.Nat.{_≤_};
-ghost use lib.Dec.{eqb};
 ghost use lib.ListN.{length};
 ghost use Rattle.std.specs.Vec.{made};
-ghost use Rattle.entry_format.specs.Reading.{input, printable, readByte, readCount, readName, readNameBytes};
+ghost use Rattle.entry_format.specs.Reading.{printable, readByte, readCount, readName, readNameBytes};
 ghost use Rattle.entry_reader.specs.Reads.{inputOf, nameOf, reads, passed};
 use crate::name::Name;
 use crate::reader::Reader;
@@ -19,26 +18,6 @@ fn is_printable(b: u8) -> bool
 }
 
 impl<'a> Reader<'a> {
-    pub fn new(file: &'a [u8]) -> Reader<'a>
-        ensures { λ r. ⌜ inputOf r ≡ input (now (file .entry)) 0 ⌝ }
-    {
-        Reader { rest: file, place: 0 }
-    }
-
-    // Whether nothing is left to read.
-    pub fn is_at_end(&self) -> bool
-        ensures { λ r. ⌜ r ≡ eqb (length (inputOf (now (self .entry)) .rest)) 0 ⌝ }
-    {
-        self.rest.is_empty()
-    }
-
-    // The place of the next byte.
-    pub fn place(&self) -> usize
-        ensures { λ r. ⌜ r ≡ inputOf (now (self .entry)) .place ⌝ }
-    {
-        self.place
-    }
-
     pub fn byte(&mut self) -> Result<u8, ReadFault>
         ensures { λ r. ⌜ reads (λ v. v) r (now (self .exit)) ≡ readByte (inputOf (now (self .entry))) ⌝ }
     {

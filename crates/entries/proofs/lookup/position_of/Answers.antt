@@ -26,12 +26,12 @@ module _ (names : List Name) (n : NameModel) (i : ℕ) (d : Name) where
 pub returns-then-equals : need.returns-then-equals
 returns-then-equals c =
     let e = at-name (c .args .names .now) (nameOf (c .args .name .now)) (c .loop-i .i) _ (c .loop-i-test .taken) in
-    sym (c .loop-i .inv ∙ e ∙ sym (ap (λ t. cond t (Some (c .loop-i .i)) (positionFrom (c .loop-i .i + 1) (drop (c .loop-i .i + 1) (map nameOf (c .args .names .now))) (nameOf (c .args .name .now)))) (c .if-equals .ensures tt)))
+    sym (c .loop-i .inv ∙ e ∙ sym (ap (λ t. cond t (Some (c .loop-i .i)) (positionFrom (c .loop-i .i + 1) (drop (c .loop-i .i + 1) (map nameOf (c .args .names .now))) (nameOf (c .args .name .now)))) (c .if-equals .ensures tt .value)))
 
 pub loop-i-again : need.loop-i-again
 loop-i-again c =
     let e = at-name (c .args .names .now) (nameOf (c .args .name .now)) (c .loop-i .i) _ (c .loop-i-test .taken) in
-    c .loop-i .inv ∙ e ∙ sym (ap (λ t. cond t (Some (c .loop-i .i)) (positionFrom (c .loop-i .i + 1) (drop (c .loop-i .i + 1) (map nameOf (c .args .names .now))) (nameOf (c .args .name .now)))) (c .if-equals .ensures tt))
+    c .loop-i .inv ∙ e ∙ sym (ap (λ t. cond t (Some (c .loop-i .i)) (positionFrom (c .loop-i .i + 1) (drop (c .loop-i .i + 1) (map nameOf (c .args .names .now))) (nameOf (c .args .name .now)))) (c .if-equals .ensures tt .value))
 
 pub returns : need.returns
 returns c = sym (c .loop-i .inv ∙ at-end (c .args .names .now) (nameOf (c .args .name .now)) (c .loop-i .i) (c .args .name .now) (c .loop-i-test .left))

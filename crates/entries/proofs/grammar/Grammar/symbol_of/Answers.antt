@@ -19,14 +19,14 @@ pub returns-in-Some : need.returns-in-Some
 returns-in-Some c =
     let g = c .args .self .now in
     let n = nameOf (c .args .name .now) in
-    let first = c .in-Some .ensures tt ∙ ap (λ xs. position (map nameOf xs) n) (c .as-slice .ensures .value) in
+    let first = c .in-Some .ensures tt ∙ ap (λ xs. position (map nameOf xs) n) (c .deref .ensures .value) in
     sym (position-append (namesOf (g .terminals)) (namesOf (g .nonterminals)) n ∙ ap (λ o. orElse o (mapped (λ m. length (namesOf (g .terminals)) + m) (position (namesOf (g .nonterminals)) n))) (sym first))
 
 pub add-result : need.add-result
 add-result c =
     let g = c .args .self .now in
     let n = nameOf (c .args .name .now) in
-    let second = c .in-Some-position-of .ensures tt ∙ ap (λ xs. position (map nameOf xs) n) (c .as-slice-2 .ensures .value) in
+    let second = c .in-Some-position-of .ensures tt ∙ ap (λ xs. position (map nameOf xs) n) (c .deref-2 .ensures .value) in
     let within = is-from-position (namesOf (g .nonterminals)) n (c .in-Some-position-of .i) (sym second) .0 in
     omega (arith, few-terminals g, few-nonterminals g, length-map (vec-items (g .nonterminals)) nameOf, g .nonterminals .ok .0, within)
 
@@ -34,8 +34,8 @@ pub returns-in-Some-position-of : need.returns-in-Some-position-of
 returns-in-Some-position-of c =
     let g = c .args .self .now in
     let n = nameOf (c .args .name .now) in
-    let first = c .in-rest .ensures tt ∙ ap (λ xs. position (map nameOf xs) n) (c .as-slice .ensures .value) in
-    let second = c .in-Some-position-of .ensures tt ∙ ap (λ xs. position (map nameOf xs) n) (c .as-slice-2 .ensures .value) in
+    let first = c .in-rest .ensures tt ∙ ap (λ xs. position (map nameOf xs) n) (c .deref .ensures .value) in
+    let second = c .in-Some-position-of .ensures tt ∙ ap (λ xs. position (map nameOf xs) n) (c .deref-2 .ensures .value) in
     let size : length (namesOf (g .terminals)) ≡ c .len .result = length-map (vec-items (g .terminals)) nameOf ∙ sym (g .terminals .ok .0) ∙ sym (c .len .ensures) in
     sym (position-append (namesOf (g .terminals)) (namesOf (g .nonterminals)) n
     ∙ (λ k. orElse (sym first k) (mapped (λ m. size k + m) (sym second k))))
@@ -44,7 +44,7 @@ pub returns-in-None : need.returns-in-None
 returns-in-None c =
     let g = c .args .self .now in
     let n = nameOf (c .args .name .now) in
-    let first = c .in-rest .ensures tt ∙ ap (λ xs. position (map nameOf xs) n) (c .as-slice .ensures .value) in
-    let second = c .in-None .ensures tt ∙ ap (λ xs. position (map nameOf xs) n) (c .as-slice-2 .ensures .value) in
+    let first = c .in-rest .ensures tt ∙ ap (λ xs. position (map nameOf xs) n) (c .deref .ensures .value) in
+    let second = c .in-None .ensures tt ∙ ap (λ xs. position (map nameOf xs) n) (c .deref-2 .ensures .value) in
     sym (position-append (namesOf (g .terminals)) (namesOf (g .nonterminals)) n
     ∙ (λ k. orElse (sym first k) (mapped (λ m. length (namesOf (g .terminals)) + m) (sym second k))))

@@ -3,7 +3,8 @@ ghost use mathlib.Core.Path.{_≡_};
 ghost use Prim.Native.Nat.{ℕ};
 ghost use Rattle.std.specs.Of.Vec.{vec-items};
 ghost use Rattle.references.specs.Remembered.{firstAnswers};
-ghost use Rattle.references.specs.Memoization.{memoReferences, memoDeclarations, memoNames};
+ghost use Rattle.std.specs.Vec.{made};
+ghost use Rattle.references.specs.Memoization.{memoReferences, memoDeclarations, memoNames, Reserved};
 ghost use Rattle.references.specs.MemoLaws.{memo-laws};
 use super::Memo;
 use super::Memoized;
@@ -17,7 +18,9 @@ const MEMO_LIMIT: usize = 1024;
 
 impl Memo {
     // Its only refusal is want of memory.
-    pub fn reserve(heap: Global) -> Result<Memo, AllocError> {
+    pub fn reserve(heap: Global) -> Result<Memo, AllocError>
+        ensures { λ r. ⌜ made r Reserved ⌝ }
+    {
         let answers = Vec::with_capacity(heap, MEMO_LIMIT)?;
         Ok(Memo { answers })
     }

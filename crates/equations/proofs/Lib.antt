@@ -1,0 +1,11 @@
+pub mod Totals
+pub mod Monotone
+pub mod Paths
+pub mod Ranks
+pub mod Least
+pub mod YesNo
+pub mod Decided
+pub mod Turns
+pub mod Rising
+pub mod ToLeast
+pub mod All

@@ -1,0 +1,3 @@
+mod Joins
+mod Members
+mod Trailing

@@ -66,14 +66,14 @@ module _
     (ps ps′ : Vec Production Global) (rs rs′ : Vec Name Global) (p : Production)
     (tiled : Tiles 0 (vec-items ps) (vec-len rs)) (adds : Adds p rs rs′) (pushed : vec-items ps′ ≡ vec-items ps ++ p ∷ [])
   where
-  pub tiles-more : Tiles 0 (vec-items ps′) (vec-len rs′)
-  tiles-more = subst (λ l. Tiles 0 l (vec-len rs′)) (sym pushed) (tiles-push 0 (vec-items ps) p (vec-len rs) (vec-len rs′) tiled (adds .first) (adds .keeps .len))
+    pub tiles-more : Tiles 0 (vec-items ps′) (vec-len rs′)
+    tiles-more = subst (λ l. Tiles 0 l (vec-len rs′)) (sym pushed) (tiles-push 0 (vec-items ps) p (vec-len rs) (vec-len rs′) tiled (adds .first) (adds .keeps .len))
 
-  pub productions-more : productionsOf ps′ rs′ ≡ productionsOf ps rs ++ productionOf (vec-items rs′) p ∷ []
-  productions-more =
-      let t = subst (Tiles 0 (vec-items ps)) (rs .ok .0) tiled in
-      let added = drop (vec-len rs) (vec-items rs′) in
-      let whole : vec-items rs′ ≡ vec-items rs ++ added = sym (take-append-drop (vec-len rs) (vec-items rs′)) ∙ ap (λ l. l ++ added) (adds .keeps .first) in
-      ap (map (productionOf (vec-items rs′))) pushed
-      ∙ map-push (productionOf (vec-items rs′)) (vec-items ps) p
-      ∙ ap (λ l. l ++ productionOf (vec-items rs′) p ∷ []) (ap (λ l. map (productionOf l) (vec-items ps)) whole ∙ productions-kept 0 (vec-items ps) (vec-items rs) added t)
+    pub productions-more : productionsOf ps′ rs′ ≡ productionsOf ps rs ++ productionOf (vec-items rs′) p ∷ []
+    productions-more =
+        let t = subst (Tiles 0 (vec-items ps)) (rs .ok .0) tiled in
+        let added = drop (vec-len rs) (vec-items rs′) in
+        let whole : vec-items rs′ ≡ vec-items rs ++ added = sym (take-append-drop (vec-len rs) (vec-items rs′)) ∙ ap (λ l. l ++ added) (adds .keeps .first) in
+        ap (map (productionOf (vec-items rs′))) pushed
+        ∙ map-push (productionOf (vec-items rs′)) (vec-items ps) p
+        ∙ ap (λ l. l ++ productionOf (vec-items rs′) p ∷ []) (ap (λ l. map (productionOf l) (vec-items ps)) whole ∙ productions-kept 0 (vec-items ps) (vec-items rs) added t)

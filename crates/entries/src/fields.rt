@@ -42,7 +42,11 @@ pub(crate) fn read_limited(reader: &mut Reader, low: u16, high: u16) -> Result<u
 }
 
 // A name that is declared behind `earlier` and `later`.
-fn read_declaration<'a>(reader: &mut Reader<'a>, earlier: &[Name<'a>], later: &[Name<'a>]) -> Result<Name<'a>, LoadFault>
+fn read_declaration<'a>(
+    reader: &mut Reader<'a>,
+    earlier: &[Name<'a>],
+    later: &[Name<'a>],
+) -> Result<Name<'a>, LoadFault>
     ensures { λ r. ⌜ reads nameOf r (now (reader .exit)) ≡ readDeclaration loaderChecks (map nameOf (now (earlier .entry))) (map nameOf (now (later .entry))) (inputOf (now (reader .entry))) ⌝ }
 {
     let name = reader.name()?;
@@ -51,7 +55,13 @@ fn read_declaration<'a>(reader: &mut Reader<'a>, earlier: &[Name<'a>], later: &[
 }
 
 // A count and that many names, each declared behind `earlier` and those before it.
-pub(crate) fn read_declarations<'a>(reader: &mut Reader<'a>, low: u16, high: u16, earlier: &[Name<'a>], names: &mut Vec<Name<'a>>) -> Result<(), LoadFault>
+pub(crate) fn read_declarations<'a>(
+    reader: &mut Reader<'a>,
+    low: u16,
+    high: u16,
+    earlier: &[Name<'a>],
+    names: &mut Vec<Name<'a>>,
+) -> Result<(), LoadFault>
     requires { ⌜ vec-len (now names) ≡ 0 ⌝ ∗ ⌜ high ≤ vec-cap (now names) ⌝ }
     ensures { λ r. ⌜ reads (λ _. namesOf (now (names .exit))) r (now (reader .exit)) ≡ readDeclarations loaderChecks low high (map nameOf (now (earlier .entry))) (inputOf (now (reader .entry))) ⌝ }
 {
@@ -64,7 +74,11 @@ pub(crate) fn read_declarations<'a>(reader: &mut Reader<'a>, low: u16, high: u16
 }
 
 // Adds `count` names to those of `names`.
-pub(crate) fn read_names<'a>(reader: &mut Reader<'a>, count: u16, names: &mut Vec<Name<'a>>) -> Result<(), ReadFault>
+pub(crate) fn read_names<'a>(
+    reader: &mut Reader<'a>,
+    count: u16,
+    names: &mut Vec<Name<'a>>,
+) -> Result<(), ReadFault>
     requires { ⌜ vec-len (now names) + count ≤ vec-cap (now names) ⌝ }
     ensures read { λ r. ⌜ reads (λ _. namesFrom (vec-len (now (names .entry))) (now (names .exit))) r (now (reader .exit)) ≡ series (λ _. readName) count [] (inputOf (now (reader .entry))) ⌝ }
     ensures keeps { λ r. ⌜ made r (λ _. Keeps count (now (names .entry)) (now (names .exit))) ⌝ }

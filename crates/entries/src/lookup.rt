@@ -24,7 +24,9 @@ pub(crate) fn check_new(earlier: &[Name], later: &[Name], name: &Name) -> Result
     ensures { λ r. ⌜ r ≡ loaderChecks .declares (map nameOf (now (earlier .entry)) ++ map nameOf (now (later .entry))) (nameOf (now (name .entry))) ⌝ }
 {
     if position_of(earlier, name).is_some() || position_of(later, name).is_some() {
-        return Err(NameFault::Duplicate { place: name.place() });
+        return Err(NameFault::Duplicate {
+            place: name.place(),
+        });
     }
     Ok(())
 }
@@ -35,6 +37,8 @@ pub(crate) fn left_side(nonterminals: &[Name], name: &Name) -> Result<usize, Nam
 {
     match position_of(nonterminals, name) {
         Some(i) => Ok(i),
-        None => Err(NameFault::NotNonterminal { place: name.place() }),
+        None => Err(NameFault::NotNonterminal {
+            place: name.place(),
+        }),
     }
 }

@@ -23,6 +23,7 @@ further i k (x ∷ xs) n = here (sameName x n) (ap (λ j. positionFrom j xs n) e
   where
     e : k + i + 1 ≡ k + (i + 1)
     e = omega arith
+
     here : (t : Bool) → positionFrom (k + i + 1) xs n ≡ mapped (λ m. k + m) (positionFrom (i + 1) xs n) →
         cond t (Some (k + i)) (positionFrom (k + i + 1) xs n) ≡ mapped (λ m. k + m) (cond t (Some i) (positionFrom (i + 1) xs n))
     here true h = refl
@@ -34,6 +35,7 @@ appended i (x ∷ xs) ys n = here (sameName x n) (appended (i + 1) xs ys n ∙ a
   where
     e : i + 1 + length xs ≡ i + suc (length xs)
     e = omega arith
+
     here : (t : Bool) → positionFrom (i + 1) (xs ++ ys) n ≡ orElse (positionFrom (i + 1) xs n) (positionFrom (i + suc (length xs)) ys n) →
         cond t (Some i) (positionFrom (i + 1) (xs ++ ys) n) ≡ orElse (cond t (Some i) (positionFrom (i + 1) xs n)) (positionFrom (i + suc (length xs)) ys n)
     here true h = refl

@@ -74,5 +74,5 @@ abbrev pub readName : Input → Parsed ReadFault NameModel
 readName l =
     andThen (readByte l) (λ n l₁.
     cond (nameLength n)
-      (andThen (readNameBytes n [] l₁) (λ text l₂. got (record { text = text; at = l .place }) l₂))
-      (bad (BadName (l .place))))
+    (andThen (readNameBytes n [] l₁) (λ text l₂. got (record { text = text; at = l .place }) l₂))
+    (bad (BadName (l .place))))

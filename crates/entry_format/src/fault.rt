@@ -77,7 +77,9 @@ impl LoadFault {
         match self {
             LoadFault::Read(_) => Layer::Reader,
             LoadFault::Names(_) => Layer::Names,
-            LoadFault::WrongKind { .. } | LoadFault::OverLimit { .. } | LoadFault::TrailingBytes { .. } => Layer::Section,
+            LoadFault::WrongKind { .. }
+            | LoadFault::OverLimit { .. }
+            | LoadFault::TrailingBytes { .. } => Layer::Section,
         }
     }
 
@@ -87,8 +89,12 @@ impl LoadFault {
     {
         match self {
             LoadFault::Read(ReadFault::EndOfFile { place } | ReadFault::BadName { place }) => place,
-            LoadFault::Names(NameFault::Duplicate { place } | NameFault::NotNonterminal { place }) => place,
-            LoadFault::WrongKind { place } | LoadFault::OverLimit { place } | LoadFault::TrailingBytes { place } => place,
+            LoadFault::Names(
+                NameFault::Duplicate { place } | NameFault::NotNonterminal { place },
+            ) => place,
+            LoadFault::WrongKind { place }
+            | LoadFault::OverLimit { place }
+            | LoadFault::TrailingBytes { place } => place,
         }
     }
 }

@@ -8,7 +8,13 @@ use std::alloc::Global;
 use std::test::*;
 
 // A file with so many terminals, nonterminals and productions, where the first production has so many right-side names.
-fn sized(heap: Global, terminals: u16, nonterminals: u16, productions: u16, right: u16) -> Result<Vec<u8>, AllocError> {
+fn sized(
+    heap: Global,
+    terminals: u16,
+    nonterminals: u16,
+    productions: u16,
+    right: u16,
+) -> Result<Vec<u8>, AllocError> {
     let mut file = Vec::new(heap);
     file.push(1)?;
     push_names(&mut file, 0, terminals)?;
@@ -24,7 +30,13 @@ fn sized(heap: Global, terminals: u16, nonterminals: u16, productions: u16, righ
 #[test]
 fn at_each_limit(rt: LibcRuntime) -> Result<(), Fail> {
     let heap = rt.alloc();
-    for (terminals, nonterminals, productions, right) in [(63, 1, 0, 0), (0, 64, 0, 0), (0, 1, 256, 0), (0, 1, 2, 1024), (63, 64, 256, 1024)] {
+    for (terminals, nonterminals, productions, right) in [
+        (63, 1, 0, 0),
+        (0, 64, 0, 0),
+        (0, 1, 256, 0),
+        (0, 1, 2, 1024),
+        (63, 64, 256, 1024),
+    ] {
         let file = sized(heap, terminals, nonterminals, productions, right)?;
         check_eq(refusal(heap, &file)?, None)?;
     }
@@ -34,7 +46,13 @@ fn at_each_limit(rt: LibcRuntime) -> Result<(), Fail> {
 #[test]
 fn past_each_limit(rt: LibcRuntime) -> Result<(), Fail> {
     let heap = rt.alloc();
-    let cases = [(64, 1, 0, 0, 1), (0, 0, 0, 0, 3), (0, 65, 0, 0, 3), (0, 1, 257, 0, 8), (0, 1, 1, 1025, 13)];
+    let cases = [
+        (64, 1, 0, 0, 1),
+        (0, 0, 0, 0, 3),
+        (0, 65, 0, 0, 3),
+        (0, 1, 257, 0, 8),
+        (0, 1, 1, 1025, 13),
+    ];
     for (terminals, nonterminals, productions, right, place) in cases {
         let file = sized(heap, terminals, nonterminals, productions, right)?;
         check_eq(refusal(heap, &file)?, Some((3, Layer::Section, place)))?;

@@ -11,8 +11,14 @@ use references::Resolver;
 use std::test::*;
 
 // What a file's references name, from number 0 on.
-fn resolves_to(rt: LibcRuntime, file: &[u8], expected: &[Result<usize, Dangling>]) -> Result<(), Fail> {
-    let grammar = load_grammar(file, GrammarMemory::reserve(rt.alloc())?).ok().ok_or("refused")?;
+fn resolves_to(
+    rt: LibcRuntime,
+    file: &[u8],
+    expected: &[Result<usize, Dangling>],
+) -> Result<(), Fail> {
+    let grammar = load_grammar(file, GrammarMemory::reserve(rt.alloc())?)
+        .ok()
+        .ok_or("refused")?;
     let resolver = GrammarResolver::new(&grammar);
     for (reference, symbol) in expected.iter().enumerate() {
         check_eq(resolver.resolve(reference), *symbol)?;
@@ -29,7 +35,29 @@ fn sample_references(rt: LibcRuntime) -> Result<(), Fail> {
 // S is X a S, and nothing is called X.
 #[test]
 fn dangling_reference(rt: LibcRuntime) -> Result<(), Fail> {
-    let file = [1, 0, 1, 1, b'a', 0, 1, 1, b'S', 0, 1, 1, b'S', 0, 3, 1, b'X', 1, b'a', 1, b'S'];
+    let file = [
+        1,
+        0,
+        1,
+        1,
+        b'a',
+        0,
+        1,
+        1,
+        b'S',
+        0,
+        1,
+        1,
+        b'S',
+        0,
+        3,
+        1,
+        b'X',
+        1,
+        b'a',
+        1,
+        b'S',
+    ];
     let expected = [Err(Dangling { reference: 0 }), Ok(0), Ok(1)];
     resolves_to(rt, &file, &expected)
 }

@@ -95,7 +95,9 @@ pub impl System for ExampleSystem as ByHand {
     }
 
     fn operand(&self, instance: usize, index: usize) -> Result<usize, Dangling> {
-        let missing = Dangling { reference: NO_REFERENCE };
+        let missing = Dangling {
+            reference: NO_REFERENCE,
+        };
         match self.operand_at(instance, index) {
             Some(operand) => match operand.target {
                 Ok(target) if target < self.instance_count() => Ok(target),

@@ -27,11 +27,18 @@ fn value(yes: bool, number: usize) -> Value {
 }
 
 // An instance that joins its targets to its start.
-fn joins(heap: Global, start: Value, targets: &[Result<usize, Dangling>]) -> Result<Instance, AllocError> {
+fn joins(
+    heap: Global,
+    start: Value,
+    targets: &[Result<usize, Dangling>],
+) -> Result<Instance, AllocError> {
     let mut operands = Vec::new(heap);
     for target in targets {
         let step = Step::Join;
-        operands.push(Operand { target: *target, step })?;
+        operands.push(Operand {
+            target: *target,
+            step,
+        })?;
     }
     Ok(Instance { start, operands })
 }
@@ -57,7 +64,12 @@ fn next(heap: Global, system: &ExampleSystem, values: &[Value]) -> Result<Vec<Va
 }
 
 // The value of one instance after so many rounds over all instances from the bottom.
-fn after_rounds(heap: Global, system: &ExampleSystem, rounds: u8, instance: usize) -> Result<Option<Value>, AllocError> {
+fn after_rounds(
+    heap: Global,
+    system: &ExampleSystem,
+    rounds: u8,
+    instance: usize,
+) -> Result<Option<Value>, AllocError> {
     let mut values = bottoms(heap, system)?;
     for _ in 0..rounds {
         values = next(heap, system, &values)?;
@@ -89,15 +101,27 @@ fn two_cycle_self_loop_and_diamond(rt: LibcRuntime) -> Result<(), Fail> {
     let both = value(true, 1).join(value(true, 2));
     check_value(after_rounds(heap, &system, 4, 0)?, both)?;
     check_value(after_rounds(heap, &system, 4, 1)?, both)?;
-    check_value(after_rounds(heap, &system, 4, 2)?, both.join(value(false, 3)))?;
-    check_value(after_rounds(heap, &system, 4, 3)?, both.join(value(false, 3)))
+    check_value(
+        after_rounds(heap, &system, 4, 2)?,
+        both.join(value(false, 3)),
+    )?;
+    check_value(
+        after_rounds(heap, &system, 4, 3)?,
+        both.join(value(false, 3)),
+    )
 }
 
 #[test]
 fn dangling_and_missing_operands(rt: LibcRuntime) -> Result<(), Fail> {
     let heap = rt.alloc();
     let mut instances = Vec::new(heap);
-    instances.push(joins(heap, value(true, 5), &[Err(Dangling { reference: 7 }), Ok(1)])?)?;
+    instances.push(
+        joins(
+            heap,
+            value(true, 5),
+            &[Err(Dangling { reference: 7 }), Ok(1)],
+        )?,
+    )?;
     let system = ExampleSystem { instances };
     check_eq(system.operand_count(0), 2)?;
     check(matches!(system.operand(0, 0), Err(Dangling { reference: 7 })))?;

@@ -31,8 +31,11 @@ const KIND: u8 = 1;
 
 // The limits of a grammar.
 const TERMINALS: u16 = 63;
+
 const NONTERMINALS: u16 = 64;
+
 const PRODUCTIONS: u16 = 256;
+
 const REFERENCES: u16 = 1024;
 
 impl<'a> GrammarMemory<'a> {
@@ -44,12 +47,21 @@ impl<'a> GrammarMemory<'a> {
         let nonterminals = Vec::with_capacity(heap, usize::from(NONTERMINALS))?;
         let productions = Vec::with_capacity(heap, usize::from(PRODUCTIONS))?;
         let references = Vec::with_capacity(heap, usize::from(REFERENCES))?;
-        Ok(GrammarMemory { terminals, nonterminals, productions, references })
+        Ok(GrammarMemory {
+            terminals,
+            nonterminals,
+            productions,
+            references,
+        })
     }
 }
 
 // A production, whose right-side names are added to `references`.
-fn read_production<'a>(reader: &mut Reader<'a>, nonterminals: &[Name<'a>], references: &mut Vec<Name<'a>>) -> Result<Production<'a>, LoadFault>
+fn read_production<'a>(
+    reader: &mut Reader<'a>,
+    nonterminals: &[Name<'a>],
+    references: &mut Vec<Name<'a>>,
+) -> Result<Production<'a>, LoadFault>
     requires { ⌜ vec-len (now references) ≤ 1024 ⌝ ∗ ⌜ 1024 ≤ vec-cap (now references) ⌝ }
     ensures read { λ r. ⌜ reads (productionOf (vec-items (now (references .exit)))) r (now (reader .exit)) ≡ readProductionAfter loaderChecks (map nameOf (now (nonterminals .entry))) (vec-len (now (references .entry))) (inputOf (now (reader .entry))) ⌝ }
     ensures adds { λ r. ⌜ made r (λ p. Adds p (now (references .entry)) (now (references .exit))) ⌝ }
@@ -59,11 +71,21 @@ fn read_production<'a>(reader: &mut Reader<'a>, nonterminals: &[Name<'a>], refer
     let first = references.len();
     let count = read_limited(reader, 0, (usize::from(REFERENCES) - first) as u16)?;
     read_names(reader, count, references)?;
-    Ok(Production { left, nonterminal, first, len: usize::from(count) })
+    Ok(Production {
+        left,
+        nonterminal,
+        first,
+        len: usize::from(count),
+    })
 }
 
 // A count and that many productions.
-fn read_productions<'a>(reader: &mut Reader<'a>, nonterminals: &[Name<'a>], productions: &mut Vec<Production<'a>>, references: &mut Vec<Name<'a>>) -> Result<(), LoadFault>
+fn read_productions<'a>(
+    reader: &mut Reader<'a>,
+    nonterminals: &[Name<'a>],
+    productions: &mut Vec<Production<'a>>,
+    references: &mut Vec<Name<'a>>,
+) -> Result<(), LoadFault>
     requires { ⌜ vec-len (now productions) ≡ 0 ⌝ ∗ ⌜ vec-len (now references) ≡ 0 ⌝ ∗ ⌜ 256 ≤ vec-cap (now productions) ⌝ ∗ ⌜ 1024 ≤ vec-cap (now references) ⌝ }
     ensures read { λ r. ⌜ reads (λ _. productionsOf (now (productions .exit)) (now (references .exit))) r (now (reader .exit)) ≡ readProductions loaderChecks (map nameOf (now (nonterminals .entry))) (inputOf (now (reader .entry))) ⌝ }
     ensures tiles { λ r. ⌜ made r (λ _. Tiles 0 (vec-items (now (productions .exit))) (vec-len (now (references .exit)))) ⌝ }
@@ -80,16 +102,39 @@ fn read_productions<'a>(reader: &mut Reader<'a>, nonterminals: &[Name<'a>], prod
 fn read_grammar<'a>(file: &'a [u8], memory: GrammarMemory<'a>) -> Result<Grammar<'a>, LoadFault>
     ensures { λ r. ⌜ answered grammarOf r ≡ loadGrammar loaderChecks (now (file .entry)) ⌝ }
 {
-    let GrammarMemory { mut terminals, mut nonterminals, mut productions, mut references } = memory;
+    let GrammarMemory {
+        mut terminals,
+        mut nonterminals,
+        mut productions,
+        mut references,
+    } = memory;
     let mut reader = Reader::new(file);
     read_kind(&mut reader, KIND)?;
     read_declarations(&mut reader, 0, TERMINALS, &[], &mut terminals)?;
-    read_declarations(&mut reader, 1, NONTERMINALS, terminals.as_slice(), &mut nonterminals)?;
-    read_productions(&mut reader, nonterminals.as_slice(), &mut productions, &mut references)?;
+    read_declarations(
+        &mut reader,
+        1,
+        NONTERMINALS,
+        terminals.as_slice(),
+        &mut nonterminals,
+    )?;
+    read_productions(
+        &mut reader,
+        nonterminals.as_slice(),
+        &mut productions,
+        &mut references,
+    )?;
     if !reader.is_at_end() {
-        return Err(LoadFault::TrailingBytes { place: reader.place() });
+        return Err(LoadFault::TrailingBytes {
+            place: reader.place(),
+        });
     }
-    Ok(Grammar { terminals, nonterminals, productions, references })
+    Ok(Grammar {
+        terminals,
+        nonterminals,
+        productions,
+        references,
+    })
 }
 
 // The grammar of a file, or the first fault in reading order.

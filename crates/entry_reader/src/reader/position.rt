@@ -10,7 +10,10 @@ impl<'a> Reader<'a> {
     pub fn new(file: &'a [u8]) -> Reader<'a>
         ensures { λ r. ⌜ inputOf r ≡ input (now (file .entry)) 0 ⌝ }
     {
-        Reader { rest: file, place: 0 }
+        Reader {
+            rest: file,
+            place: 0,
+        }
     }
 
     // Whether nothing is left to read.

@@ -11,6 +11,6 @@ use Rattle.entries.proofs.fields.read_declarations.Given as given
 abbrev pub Inv-loop-i : given.InvT-loop-i
 Inv-loop-i l =
     (series (readDeclaration loaderChecks (map nameOf (l .earlier))) (l .count) [] (inputOf (l .entry .reader))
-      ≡ series (readDeclaration loaderChecks (map nameOf (l .earlier))) (l .count - l .i) (namesOf (l .names)) (inputOf (l .reader)))
+    ≡ series (readDeclaration loaderChecks (map nameOf (l .earlier))) (l .count - l .i) (namesOf (l .names)) (inputOf (l .reader)))
     × (vec-len (l .names) ≡ l .i)
     × (vec-cap (l .names) ≡ vec-cap (l .entry .names))

@@ -17,7 +17,7 @@ returns c =
     let keeps = c .in-Continue-read-names .ensures tt .keeps in
     let size : length (drop (c .len-first .result) (vec-items after)) ≤ c .from-2 .result = simp length-drop (omega (arith, after .ok .0, keeps .len)) in
     let right : map nameOf (take (c .from-2 .result) (drop (c .len-first .result) (vec-items after))) ≡ namesFrom (vec-len before) after =
-        ap (map nameOf) (take-all (c .from-2 .result) (drop (c .len-first .result) (vec-items after)) size ∙ ap (λ n. drop n (vec-items after)) (c .len-first .ensures)) in
+    ap (map nameOf) (take-all (c .from-2 .result) (drop (c .len-first .result) (vec-items after)) size ∙ ap (λ n. drop n (vec-items after)) (c .len-first .ensures)) in
     record {
       read = search (needs, right);
       adds = record { first = c .len-first .ensures; keeps = subst (λ n. Keeps n before after) (sym (c .from-2 .ensures)) keeps; few = omega (arith, keeps .len, c .in-Continue-count .ensures tt .within) };

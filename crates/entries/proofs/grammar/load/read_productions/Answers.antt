@@ -28,9 +28,14 @@ loop-i-holds c =
     let nts = map nameOf (c .args .nonterminals .now) in
     let e : c .in-Continue-count .count ≡ c .in-Continue-count .count - 0 = omega arith in
     let none = no-items (c .args .productions .now) (c .pre .0) in
-    let done : productionsOf (c .args .productions .now) (c .args .references .now) ≡ [] = ap (map (productionOf (vec-items (c .args .references .now)))) none in
-    (λ k. series (readProduction loaderChecks nts) (e k) (sym done k) (inputOf (c .read-limited .last .reader)),
-    rw none (sym (c .pre .1 .0)), c .pre .0, omega arith, refl, refl)
+    let done : productionsOf (c .args .productions .now) (c .args .references .now) ≡ [] = ap (map (productionOf (vec-items (c .args .references .now)))) none in (
+      λ k. series (readProduction loaderChecks nts) (e k) (sym done k) (inputOf (c .read-limited .last .reader)),
+      rw none (sym (c .pre .1 .0)),
+      c .pre .0,
+      omega arith,
+      refl,
+      refl,
+    )
 
 pub loop-i-again : need.loop-i-again
 loop-i-again c =
@@ -40,9 +45,14 @@ loop-i-again c =
     let used = references-count (c .loop-i .productions) (c .loop-i .references) (c .loop-i .inv .1) in
     let e = series-more (readProduction loaderChecks nts) (c .in-Continue-count .count) (c .loop-i .i) (c .loop-i-test .taken) done (inputOf (c .loop-i .reader)) _ _ (told .read ∙ ap (λ n. readProductionAfter loaderChecks nts n (inputOf (c .loop-i .reader))) (sym used)) in
     let m = productions-more (c .loop-i .productions) (c .push-reserved .last .self) (c .loop-i .references) (c .read-production .last .references) (c .in-Continue-production .production) (c .loop-i .inv .1) (told .adds) (c .push-reserved .ensures .items) in
-    let t = tiles-more (c .loop-i .productions) (c .push-reserved .last .self) (c .loop-i .references) (c .read-production .last .references) (c .in-Continue-production .production) (c .loop-i .inv .1) (told .adds) (c .push-reserved .ensures .items) in
-    (c .loop-i .inv .0 ∙ e ∙ ap (λ l. series (readProduction loaderChecks nts) (c .in-Continue-count .count - (c .loop-i .i + 1)) l (inputOf (c .read-production .last .reader))) (sym m),
-    t, omega arith, told .adds .few, c .push-reserved .ensures .capacity ∙ c .loop-i .inv .4, told .adds .keeps .room ∙ c .loop-i .inv .5)
+    let t = tiles-more (c .loop-i .productions) (c .push-reserved .last .self) (c .loop-i .references) (c .read-production .last .references) (c .in-Continue-production .production) (c .loop-i .inv .1) (told .adds) (c .push-reserved .ensures .items) in (
+      c .loop-i .inv .0 ∙ e ∙ ap (λ l. series (readProduction loaderChecks nts) (c .in-Continue-count .count - (c .loop-i .i + 1)) l (inputOf (c .read-production .last .reader))) (sym m),
+      t,
+      omega arith,
+      told .adds .few,
+      c .push-reserved .ensures .capacity ∙ c .loop-i .inv .4,
+      told .adds .keeps .room ∙ c .loop-i .inv .5,
+    )
 
 pub returns : need.returns
 returns c =

@@ -11,7 +11,7 @@ use Rattle.entries.proofs.grammar.load.read_productions.Given as given
 abbrev pub Inv-loop-i : given.InvT-loop-i
 Inv-loop-i l =
     (series (readProduction loaderChecks (map nameOf (l .nonterminals))) (l .count) [] (inputOf (l .entry .reader))
-      ≡ series (readProduction loaderChecks (map nameOf (l .nonterminals))) (l .count - l .i) (productionsOf (l .productions) (l .references)) (inputOf (l .reader)))
+    ≡ series (readProduction loaderChecks (map nameOf (l .nonterminals))) (l .count - l .i) (productionsOf (l .productions) (l .references)) (inputOf (l .reader)))
     × Tiles 0 (vec-items (l .productions)) (vec-len (l .references))
     × (vec-len (l .productions) ≡ l .i)
     × (vec-len (l .references) ≤ 1024)

@@ -38,7 +38,7 @@ Names-stand-in-file =
     (file : List ℕ) (g : GrammarModel) → Bytes file → loadGrammar loaderChecks file ≡ Ok g →
     All (StandsIn file) (allNames g)
 
--- the place p lies inside a name whose length byte stands at q
+-- the byte at q is a length that a name may have, and p lies within that many bytes behind it
 abbrev pub InName : List ℕ → ℕ → ℕ → Type 0
 InName file q p = (nameLength (getD file q 0) ≡ true) × (q < p) × (p ≤ q + getD file q 0)
 
@@ -46,7 +46,7 @@ InName file q p = (nameLength (getD file q 0) ≡ true) × (q < p) × (p ≤ q +
 abbrev pub Tells : List ℕ → LoadFault → Type 0
 -- the file ends there
 Tells file (Read (EndOfFile p)) = p ≡ length file
--- the byte is the length of a name, and no name may have that length; or it lies in a name, and no name may have that byte
+-- the byte is no length that a name may have; or an earlier byte is one and reaches it, and no name may have this byte
 Tells file (Read (BadName p)) =
     (p < length file)
     × ((nameLength (getD file p 0) ≡ false) ⊎ ((q : ℕ) × InName file q p × (printable (getD file p 0) ≡ false)))

@@ -8,7 +8,7 @@ use lattices::Lattice;
 // The number of rows that a table of the system has, one for each instance.
 pub fn row_count<S: System>(system: &S) -> usize
     ensures value { result ≡ (S.System.equations system.now).size }
-    ensures laws { TableLaws Value-as-Lattice.bot Value-as-Lattice.le Value-as-Lattice.same Value-as-Lattice.height (S.System.equations system.now) }
+    ensures laws { TableLaws S.Value.Lattice.bot S.Value.Lattice.le S.Value.Lattice.same S.Value.Lattice.height (S.System.equations system.now) }
 {
     system.size()
 }

@@ -1,4 +1,6 @@
 // Entry files, loaded, and the resolvers of their references.
+#![tactic(auto)]
+
 mod fields;
 pub mod grammar;
 mod lookup;

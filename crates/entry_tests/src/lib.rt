@@ -1,4 +1,6 @@
 // Tests of the loader and the resolver on files that are made here.
+#![tactic(auto)]
+
 #[cfg(test)]
 mod files;
 #[cfg(test)]

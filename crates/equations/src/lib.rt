@@ -1,4 +1,6 @@
 // Systems of equations over lattices.
+#![tactic(auto)]
+
 ghost use Rattle.std.specs.Prelude.{◌≡◌, ℕ, ◌↔◌};
 ghost use Rattle.equations.specs.Equations.{Equations, Lawful};
 

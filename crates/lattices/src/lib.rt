@@ -1,4 +1,6 @@
 // Lattices of finite height.
+#![tactic(auto)]
+
 ghost use Rattle.std.specs.Prelude.{◌≡◌, ℕ, min, Bool, Decides};
 ghost use Rattle.lattices.specs.Laws.{LatticeLaws};
 

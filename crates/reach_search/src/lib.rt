@@ -1,4 +1,6 @@
 // The search of an instance's reach, over a lent work list.
+#![tactic(auto)]
+
 ghost use Rattle.std.specs.Prelude.{◌≡◌, ℕ, ◌*◌, ◌<◌, ◌≤◌, length, slice_index};
 ghost use Rattle.equations.specs.Reach.{Uses};
 ghost use Rattle.reach_search.specs.Dangles.{TellsLowest};

@@ -1,4 +1,6 @@
 // References, the declarations that they name, and a layer that remembers answers.
+#![tactic(auto)]
+
 ghost use Rattle.std.specs.Prelude.{◌≡◌, ℕ, Option};
 ghost use Rattle.references.specs.Resolution.{ResolverLaws, resolved};
 

@@ -1,4 +1,6 @@
 // Reports on entry files.
+#![tactic(auto)]
+
 use entries::grammar::load::load_grammar;
 use entries::grammar::{Grammar, GrammarMemory};
 use entries::sample::sample_grammar;

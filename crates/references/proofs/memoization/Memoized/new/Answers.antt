@@ -14,12 +14,12 @@ loop-reference-preserved g c =
     let more = map-range_with_len_more names 0 i i (omega arith) in
     (cc, search rules, search rules, c.loop-reference.invariant.3)
 
-pub invariant-of-result : goal.invariant-of-result
-invariant-of-result g c =
+pub invariant_of-result : goal.invariant_of-result
+invariant_of-result g c =
     let below = g.R.Resolver in
     let s = c.args.below in
     let all = within_answers (below.references s) (below.declarations s) (below.names s) c.loop-reference.reference (below.laws s) in
-    (λ r d e. let k = all r d (ap (λ xs. get_or xs r None) (sym c.loop-reference.invariant.0) ∙ e) in search rules, tt)
+    record { within = λ r d e. let k = all r d (ap (λ xs. get_or xs r None) (sym c.loop-reference.invariant.0) ∙ e) in search rules }
 
 pub returns : goal.returns
 returns g c =

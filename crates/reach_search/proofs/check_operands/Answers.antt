@@ -9,7 +9,7 @@ returns-in-Err g c =
 
 pub loop-operand-preserved : goal.loop-operand-preserved
 loop-operand-preserved g c =
-    none_below_more (g.S.System.equations c.args.system.now) _ _ _ c.loop-operand.invariant (sym c.operand.ensures ∙ c.in-default.is)
+    none_below_more (g.S.System.equations c.args.system.now) _ _ _ c.loop-operand.invariant (sym c.operand.ensures ∙ c.in_default.is)
 
 pub returns : goal.returns
 returns g c =

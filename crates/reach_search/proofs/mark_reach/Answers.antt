@@ -17,12 +17,12 @@ loop-visited-init g c =
     let n = c.size-size.ensures.size in
     searching_none (g.S.System.equations c.args.system.now) (λ j l. c.clear.ensures j (omega arith)) (adds_at n refl refl c.add-found.ensures)
 
-pub overflow-add-next : goal.overflow-add-next
-overflow-add-next g c =
+pub overflow_add-next : goal.overflow_add-next
+overflow_add-next g c =
     omega (arith, next_within (g.S.System.equations c.args.system.now) c.loop-visited.invariant c.loop-visited-test.true, c.size-size.ensures.size)
 
-pub offset-bounds-work-size : goal.offset-bounds-work-size
-offset-bounds-work-size g c =
+pub offset_bounds-work-size : goal.offset_bounds-work-size
+offset_bounds-work-size g c =
     omega (arith, next_within (g.S.System.equations c.args.system.now) c.loop-visited.invariant c.loop-visited-test.true, c.size-size.ensures.size)
 
 pub bounds-work-size : goal.bounds-work-size

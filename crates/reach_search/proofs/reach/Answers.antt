@@ -5,17 +5,17 @@ use Rattle.reach_search.specs.Searched.{whole, dangling}
 use Rattle.reach_search.proofs.Lowest.{whole_from_marks, lowest_from_marks, searched}
 use Rattle.reach_search.proofs.reach.Goals as goal
 
-pub returns-in-err-check-whole : goal.returns-in-err-check-whole
-returns-in-err-check-whole g c =
+pub returns-in_err-check_whole : goal.returns-in_err-check_whole
+returns-in_err-check_whole g c =
     let e = g.S.System.equations c.args.system.now in
     let l : c.args.instance < e.size = omega arith in
-    let p = err_from_is_err_and c.from-residual.result c.from-residual.ensures.1 in
-    let d = lowest_from_marks e (g.S.System.lawful c.args.system.now) _ l _ c.mark-reach.ensures _ c.in-err-check-whole.ensures in
-    rw (p.1, p.2) (searched e _ _ _ _ (omega arith) l c.mark-reach.ensures (dangling d) c.mark-reach.auto.work)
+    let p = err_from_is_err_and c.from_residual.result c.from_residual.ensures.1 in
+    let d = lowest_from_marks e (g.S.System.lawful c.args.system.now) _ l _ c.mark_reach.ensures _ c.in_err-check_whole.ensures in
+    rw (p.1, p.2) (searched e _ _ _ _ (omega arith) l c.mark_reach.ensures (dangling d) c.mark_reach.auto.work)
 
 pub returns : goal.returns
 returns g c =
     let e = g.S.System.equations c.args.system.now in
     let l : c.args.instance < e.size = omega arith in
-    let w = whole_from_marks e (g.S.System.lawful c.args.system.now) _ l _ c.mark-reach.ensures c.in-ok-check-whole.ensures in
-    searched e _ _ _ _ (omega arith) l c.mark-reach.ensures (whole w) c.mark-reach.auto.work
+    let w = whole_from_marks e (g.S.System.lawful c.args.system.now) _ l _ c.mark_reach.ensures c.in_ok-check_whole.ensures in
+    searched e _ _ _ _ (omega arith) l c.mark_reach.ensures (whole w) c.mark_reach.auto.work

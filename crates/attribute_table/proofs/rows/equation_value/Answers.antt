@@ -16,8 +16,8 @@ pub bounds-rows-j : goal.bounds-rows-j
 bounds-rows-j g c =
     operand_below (g.S.System.lawful c.args.system.now) c.requires c.args.instance c.loop-k.k c.in-Ok.j (sym c.operand.ensures ∙ c.in-Ok.is)
 
-pub offset-bounds-rows-j : goal.offset-bounds-rows-j
-offset-bounds-rows-j g c = omega (arith, bounds-rows-j g c)
+pub offset_bounds-rows-j : goal.offset_bounds-rows-j
+offset_bounds-rows-j g c = omega (arith, bounds-rows-j g c)
 
 -- The value after operand k, which is an instance or dangles.
 module _ {V : Type 0} (e : Equations V) (w : ℕ → V) (i k : ℕ) (x y : V) (so_far : x ≡ after e w i k) where
@@ -41,6 +41,6 @@ loop-k-preserved g c =
           let q = sym c.operand.ensures ∙ h.in-Ok.is in
           let below = operand_below (g.S.System.lawful c.args.system.now) c.requires i k j q in
           let read = get_or_read rows j h.index-rows-j.result below h.index-rows-j.is (row Untouched bot) in
-          taken e w i k _ _ c.loop-k.invariant j _ q (ap (λ r. r.value) read) (h.so-far-is ∙ h.step-so-far.ensures)
-      | in-default h ↦ through e w i k _ _ c.loop-k.invariant (Err h.in-default.field-0) (sym c.operand.ensures ∙ h.in-default.is) h.so-far-is
+          taken e w i k _ _ c.loop-k.invariant j _ q (ap (λ r. r.value) read) (h.so_far-is ∙ h.step-so_far.ensures)
+      | in-default h ↦ through e w i k _ _ c.loop-k.invariant (Err h.in-default.field-0) (sym c.operand.ensures ∙ h.in-default.is) h.so_far-is
     ]

@@ -7,4 +7,4 @@ use Rattle.attribute_table.proofs.rows.equation_value.Given as goal
 
 abbrev pub invariant-loop-k : goal.invariant-loop-k
 invariant-loop-k g l =
-    l.so-far ≡ after (g.S.System.equations l.system) (values (rows_of g.S.Value.Lattice.bot l.rows)) l.instance l.k
+    l.so_far ≡ after (g.S.System.equations l.system) (values (rows_of g.S.Value.Lattice.bot l.rows)) l.instance l.k

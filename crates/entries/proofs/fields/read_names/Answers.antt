@@ -7,10 +7,10 @@ use Rattle.entries.specs.Fields.{names_from, Keeps}
 use Rattle.entries.proofs.Vectors.{keeps_none, names_none, names_more, keeps_more}
 use Rattle.entries.proofs.fields.read_names.Goals as goal
 
-pub returns-in-err-name : goal.returns-in-err-name
-returns-in-err-name c =
-    let e = series_bad (λ _. read_name) c.args.count c.loop-i.i c.loop-i-test.true (names_from (vec_len c.args.names.now) c.loop-i.names) (input_of c.loop-i.reader) _ c.in-err-name.ensures in
-    let p = err_from_is_err_and c.from-residual.result c.from-residual.ensures.1 in
+pub returns-in_err-name : goal.returns-in_err-name
+returns-in_err-name c =
+    let e = series_bad (λ _. read_name) c.args.count c.loop-i.i c.loop-i-test.true (names_from (vec_len c.args.names.now) c.loop-i.names) (input_of c.loop-i.reader) _ c.in_err-name.ensures in
+    let p = err_from_is_err_and c.from_residual.result c.from_residual.ensures.1 in
     rw (p.1, p.2) (record { read = sym (c.loop-i.invariant.0 ∙ e); keeps = tt })
 
 pub loop-i-init : goal.loop-i-init
@@ -20,9 +20,9 @@ loop-i-init c =
 
 pub loop-i-preserved : goal.loop-i-preserved
 loop-i-preserved c =
-    let e = series_more (λ _. read_name) c.args.count c.loop-i.i c.loop-i-test.true (names_from (vec_len c.args.names.now) c.loop-i.names) (input_of c.loop-i.reader) _ _ c.in-ok-name.ensures in
-    let m = names_more c.loop-i.i c.args.names.now c.loop-i.names c.push-reserved.new.self c.in-ok-name.name c.loop-i.invariant.1 c.push-reserved.ensures.items in
-    let k = keeps_more c.loop-i.i c.args.names.now c.loop-i.names c.push-reserved.new.self c.in-ok-name.name c.loop-i.invariant.1 c.push-reserved.ensures.items c.push-reserved.ensures.len c.push-reserved.ensures.capacity in
+    let e = series_more (λ _. read_name) c.args.count c.loop-i.i c.loop-i-test.true (names_from (vec_len c.args.names.now) c.loop-i.names) (input_of c.loop-i.reader) _ _ c.in_ok-name.ensures in
+    let m = names_more c.loop-i.i c.args.names.now c.loop-i.names c.push_reserved.new.self c.in_ok-name.name c.loop-i.invariant.1 c.push_reserved.ensures.items in
+    let k = keeps_more c.loop-i.i c.args.names.now c.loop-i.names c.push_reserved.new.self c.in_ok-name.name c.loop-i.invariant.1 c.push_reserved.ensures.items c.push_reserved.ensures.len c.push_reserved.ensures.capacity in
     (c.loop-i.invariant.0 ∙ e ∙ ap (λ done. series (λ _. read_name) (c.args.count - (c.loop-i.i + 1)) done (input_of c.name.new.self)) (sym m), k)
 
 pub returns : goal.returns

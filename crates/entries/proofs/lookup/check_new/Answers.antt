@@ -4,8 +4,8 @@ use Rattle.entry_reader.specs.Reads.{name_of}
 use Rattle.entries.proofs.lookup.check_new.Goals as goal
 use Rattle.entries.proofs.lookup.check_new.Goals.{then-is-some-via-then-is-some, then-is-some-via-else-is-some+then-is-some-2}
 
-pub returns-then-is-some : goal.returns-then-is-some
-returns-then-is-some c =
+pub returns-then-is_some : goal.returns-then-is_some
+returns-then-is_some c =
     let e = found_append (map name_of c.args.earlier.now) (map name_of c.args.later.now) (name_of c.args.name.now) in
     search (rules, e)
 

@@ -13,8 +13,8 @@ pub bounds-values-j : goal.bounds-values-j
 bounds-values-j g c =
     operand_below (g.S.System.lawful c.args.system.now) c.requires c.args.instance c.loop-k.k c.in-Ok.j (sym c.operand.ensures ∙ c.in-Ok.is)
 
-pub offset-bounds-values-j : goal.offset-bounds-values-j
-offset-bounds-values-j g c = omega (arith, bounds-values-j g c)
+pub offset_bounds-values-j : goal.offset_bounds-values-j
+offset_bounds-values-j g c = omega (arith, bounds-values-j g c)
 
 one_more : {V : Type 0} (e : Equations V) (w : ℕ → V) (i k : ℕ) (op : Operand) (y : V) → e.operand i k ≡ op → y ≡ stepped e w i k (after e w i k) op → y ≡ after e w i (k + 1)
 one_more e w i k op y q p = rw add-one (p ∙ ap (stepped e w i k (after e w i k)) (sym q))
@@ -32,6 +32,6 @@ loop-k-preserved g c =
           let q = sym c.operand.ensures ∙ w.in-Ok.is in
           let below = operand_below (g.S.System.lawful c.args.system.now) c.requires i k j q in
           let read = get_or_read values j w.index-values-j.result below w.index-values-j.is bot in
-          one_more e (λ z. get_or values z bot) i k (Ok j) _ q (w.so-far-is ∙ w.step-so-far.ensures ∙ λ d. e.step i k (c.loop-k.invariant d) (read d))
-      | in-default w ↦ one_more e (λ z. get_or values z bot) i k (Err w.in-default.field-0) _ (sym c.operand.ensures ∙ w.in-default.is) (w.so-far-is ∙ c.loop-k.invariant)
+          one_more e (λ z. get_or values z bot) i k (Ok j) _ q (w.so_far-is ∙ w.step-so_far.ensures ∙ λ d. e.step i k (c.loop-k.invariant d) (read d))
+      | in-default w ↦ one_more e (λ z. get_or values z bot) i k (Err w.in-default.field-0) _ (sym c.operand.ensures ∙ w.in-default.is) (w.so_far-is ∙ c.loop-k.invariant)
     ]

@@ -5,4 +5,4 @@ use Rattle.equations.proofs.work.equation_value.Given as goal
 
 abbrev pub invariant-loop-k : goal.invariant-loop-k
 invariant-loop-k g l =
-    l.so-far ≡ after (g.S.System.equations l.system) (λ j. get_or l.values j g.S.Value.Lattice.bot) l.instance l.k
+    l.so_far ≡ after (g.S.System.equations l.system) (λ j. get_or l.values j g.S.Value.Lattice.bot) l.instance l.k

@@ -14,7 +14,7 @@ pub loop-i-init : goal.loop-i-init
 loop-i-init g c =
     let names = g.R.Resolver.names c.args.resolver.now in
     let right = map name_of c.args.right.now in
-    let head = c.in-ok-lines.ensures ∙ ap (production_line c.args.number (name_of c.args.left.now)) (sym (length-map c.args.right.now name_of)) in
+    let head = c.in_ok-lines.ensures ∙ ap (production_line c.args.number (name_of c.args.left.now)) (sym (length-map c.args.right.now name_of)) in
     let none : c.args.first + 0 ≡ c.args.first = omega arith in
     λ k. head k ++ reference_lines names (none k) right
 
@@ -28,10 +28,10 @@ loop-i-preserved g c =
     let lt : i < length right = omega (arith, length-map c.args.right.now name_of, c.loop-i-test.true) in
     let next : r + 1 ≡ c.args.first + (i + 1) = omega arith in
     let symbol = c.ok-symbol.ensures.value ∙ ap result_ok c.resolve.ensures ∙ ok_resolved r (names r) in
-    let piece = c.as-str.ensures.value ∙ c.in-ok-reference-line.ensures ∙ ap (reference_line r name) symbol in
+    let piece = c.as_str.ensures.value ∙ c.in_ok-reference_line.ensures ∙ ap (reference_line r name) symbol in
     let step = at_drop_more (reference_lines names r) right i (name_of no_name) lt
     ∙ (λ k. reference_line r (get_or-map name_of c.args.right.now i no_name (name_of no_name) c.loop-i-test.true k) (names r) ++ reference_lines names (next k) (drop (i + 1) right)) in
-    let push = pushed c.as-str.result.now refl c.in-ok-push-str.was c.push-str.ensures.bytes in
+    let push = pushed c.as_str.result.now refl c.in_ok-push_str.was c.push_str.ensures.bytes in
     written_more (string_bytes c.loop-i.lines) (reference_line r name (names r)) (reference_lines names (c.args.first + (i + 1)) (drop (i + 1) right)) c.loop-i.invariant step (push ∙ ap (λ t. string_bytes c.loop-i.lines ++ t) piece)
 
 pub returns : goal.returns

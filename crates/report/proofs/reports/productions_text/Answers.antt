@@ -17,26 +17,26 @@ unwrap-right-requires g c =
     let references = vec_items c.args.grammar.now.references in
     let m = production_of references (get_or c.productions-production-items.result.now i no_production) in
     let here = model_at references c.productions-production-items.result.now models i c.productions-production-items.ensures.model c.loop-number-test.true in
-    right_some models i m here (λ names. map name_of names.now) c.right-side.result c.right-side.ensures
+    right_some models i m here (λ names. map name_of names.now) c.right_side.result c.right_side.ensures
 
-pub production-text-requires : goal.production-text-requires
-production-text-requires g c =
+pub production_text-requires : goal.production_text-requires
+production_text-requires g c =
     let models = (grammar_of c.args.grammar.now).productions in
     let i = c.loop-number.number in
     let references = vec_items c.args.grammar.now.references in
     let m = production_of references (get_or c.productions-production-items.result.now i no_production) in
     let here = model_at references c.productions-production-items.result.now models i c.productions-production-items.ensures.model c.loop-number-test.true in
-    let right = right_is models i m here (λ names. map name_of names.now) c.right-side.result c.unwrap-right.result c.right-side.ensures c.unwrap-right.ensures in
+    let right = right_is models i m here (λ names. map name_of names.now) c.right_side.result c.unwrap-right.result c.right_side.ensures c.unwrap-right.ensures in
     omega (arith, names_le models i m here c.unwrap-right.result.now c.loop-number.first right c.loop-number.invariant.1, references_le c.args.grammar.now)
 
-pub overflow-add-first : goal.overflow-add-first
-overflow-add-first g c =
+pub overflow_add-first : goal.overflow_add-first
+overflow_add-first g c =
     let models = (grammar_of c.args.grammar.now).productions in
     let i = c.loop-number.number in
     let references = vec_items c.args.grammar.now.references in
     let m = production_of references (get_or c.productions-production-items.result.now i no_production) in
     let here = model_at references c.productions-production-items.result.now models i c.productions-production-items.ensures.model c.loop-number-test.true in
-    let right = right_is models i m here (λ names. map name_of names.now) c.right-side.result c.unwrap-right.result c.right-side.ensures c.unwrap-right.ensures in
+    let right = right_is models i m here (λ names. map name_of names.now) c.right_side.result c.unwrap-right.result c.right_side.ensures c.unwrap-right.ensures in
     let few : c.loop-number.first + length c.unwrap-right.result.now ≤ 1024 = omega (arith, names_le models i m here c.unwrap-right.result.now c.loop-number.first right c.loop-number.invariant.1, references_le c.args.grammar.now) in
     search (rules, few)
 
@@ -49,10 +49,10 @@ loop-number-preserved g c =
     let references = vec_items c.args.grammar.now.references in
     let m = production_of references (get_or c.productions-production-items.result.now i no_production) in
     let here = model_at references c.productions-production-items.result.now models i c.productions-production-items.ensures.model c.loop-number-test.true in
-    let right = right_is models i m here (λ names. map name_of names.now) c.right-side.result c.unwrap-right.result c.right-side.ensures c.unwrap-right.ensures in
+    let right = right_is models i m here (λ names. map name_of names.now) c.right_side.result c.unwrap-right.result c.right_side.ensures c.unwrap-right.ensures in
     let size = sym (length-map c.unwrap-right.result.now name_of) ∙ ap length right in
-    let piece = c.as-str.ensures.value ∙ c.in-ok-text.ensures ∙ (λ k. production_text names i first (name_of (c.left-left.ensures k)) (right k)) in
-    let push = pushed c.as-str.result.now refl c.in-ok-push-str.was c.push-str.ensures.bytes in
+    let piece = c.as_str.ensures.value ∙ c.in_ok-text.ensures ∙ (λ k. production_text names i first (name_of (c.left-left.ensures k)) (right k)) in
+    let push = pushed c.as_str.result.now refl c.in_ok-push_str.was c.push_str.ensures.bytes in
     let step = text_more models i m here names first ∙ (λ k. production_text names i first m.left m.right ++ productions_text names (i + 1) (first + sym size k) (drop (i + 1) models)) in (
       written_more (string_bytes c.loop-number.lines) (production_text names i first m.left m.right) (productions_text names (i + 1) (first + length c.unwrap-right.result.now) (drop (i + 1) models)) c.loop-number.invariant.0 step (push ∙ ap (λ t. string_bytes c.loop-number.lines ++ t) piece),
       omega (arith, size, count_more models i m here first c.loop-number.invariant.1),

@@ -14,8 +14,8 @@ use Rattle.report.proofs.reports.symbols_text.Goals as goal
 within : (c : goal.After-drop) → c.loop-name.symbol < length (symbols (grammar_of c.args.grammar.now))
 within c = within_some (symbols (grammar_of c.args.grammar.now)) c.loop-name.symbol (name_of c.in-Some.name) (sym c.in-Some.ensures)
 
-pub overflow-add-symbol : goal.overflow-add-symbol
-overflow-add-symbol c =
+pub overflow_add-symbol : goal.overflow_add-symbol
+overflow_add-symbol c =
     let lt = within c in
     let few = symbols_le c.args.grammar.now in
     let small : c.loop-name.symbol ≤ 127 = omega arith in
@@ -31,9 +31,9 @@ loop-name-preserved c =
     let line = symbol_line (length model.terminals) in
     let name = name_of c.in-Some.name in
     let count = sym (length-map c.terminals-terminals.result.now name_of) ∙ ap length c.terminals-terminals.ensures in
-    let piece = c.as-str.ensures.value ∙ c.in-ok-symbol-line.ensures ∙ ap (λ t. symbol_line t i name) count in
+    let piece = c.as_str.ensures.value ∙ c.in_ok-symbol_line.ensures ∙ ap (λ t. symbol_line t i name) count in
     let step = ap (numbered line i) (drop_some (symbols model) i name (sym c.in-Some.ensures)) in
-    let push = pushed c.as-str.result.now refl c.in-ok-push-str.was c.push-str.ensures.bytes in
+    let push = pushed c.as_str.result.now refl c.in_ok-push_str.was c.push_str.ensures.bytes in
     written_more (string_bytes c.loop-name.lines) (line i name) (numbered line (i + 1) (drop (i + 1) (symbols model))) c.loop-name.invariant step (push ∙ ap (λ t. string_bytes c.loop-name.lines ++ t) piece)
 
 pub returns : goal.returns
@@ -41,4 +41,4 @@ returns c =
     let model = grammar_of c.args.grammar.now in
     let i = c.loop-name.symbol in
     let line = symbol_line (length model.terminals) in
-    written_all (string_bytes c.loop-name.lines) c.loop-name.invariant (ap (numbered line i) (drop_all i (symbols model) (past_none (symbols model) i (sym c.in-default.ensures))))
+    written_all (string_bytes c.loop-name.lines) c.loop-name.invariant (ap (numbered line i) (drop_all i (symbols model) (past_none (symbols model) i (sym c.in_default.ensures))))

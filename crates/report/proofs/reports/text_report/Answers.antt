@@ -8,6 +8,6 @@ use Rattle.report.proofs.reports.text_report.Goals as goal
 pub returns : goal.returns
 returns c =
     let model = grammar_of c.args.grammar.now in
-    IfOk-weaker c.grammar-report.result _ _
+    IfOk-weaker c.grammar_report.result _ _
     (λ _ e. e ∙ (λ k. grammar_report c.args.file.now model (λ n. c.new-resolver.ensures.names n k)) ∙ ap (λ g. grammar_report c.args.file.now model (resolve_reference g)) c.new.ensures.model)
-    c.grammar-report.ensures
+    c.grammar_report.ensures

@@ -27,7 +27,7 @@ returns-else-settled-instance g c =
     let rows = c.args.rows.now in
     let bot = g.S.Value.Lattice.bot in
     let size = c.size-size.ensures.size in
-    let closes = c.make-final-made-final.ensures in
+    let closes = c.make_final-made_final.ensures in
     let read = get_or_read rows c.spend.result c.index-rows-spend.result (omega arith) c.index-rows-spend.is (row Untouched bot) in
     record {
       call = close_of_settled (omega arith) c.in-Settled-default.settled c.if-settled-instance.false c.in-Settled-default.is-0 (omega arith) c.index-rows-spend.result
@@ -35,6 +35,6 @@ returns-else-settled-instance g c =
       session = tt;
     }
 
-pub returns-in-default : goal.returns-in-default
-returns-in-default g c =
-    record { call = kept (omega arith) (close_unfit (omega arith) (λ k. c.in-default.not-Settled-0 (evaluation c.args.session.instance k))); session = refl }
+pub returns-in_default : goal.returns-in_default
+returns-in_default g c =
+    record { call = kept (omega arith) (close_unfit (omega arith) (λ k. c.in_default.not-Settled-0 (evaluation c.args.session.instance k))); session = refl }

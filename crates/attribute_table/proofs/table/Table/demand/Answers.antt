@@ -12,8 +12,8 @@ use Rattle.attribute_table.proofs.Outcomes.{demand_of_final, demand_of_dangling,
 use Rattle.attribute_table.proofs.RowsAfter.{pending_at_bottom}
 use Rattle.attribute_table.proofs.table.Table.demand.Goals as goal
 
-pub returns-in-default : goal.returns-in-default
-returns-in-default g c = record { call = kept (omega arith, omega arith) (demand_busy c.in-default.not-Idle); work = refl }
+pub returns-in_default : goal.returns-in_default
+returns-in_default g c = record { call = kept (omega arith, omega arith) (demand_busy c.in_default.not-Idle); work = refl }
 
 pub returns-then-instance-size : goal.returns-then-instance-size
 returns-then-instance-size g c = record { call = kept (omega arith, omega arith) (demand_none c.in-Idle.is (omega arith)); work = refl }
@@ -24,23 +24,23 @@ returns-in-Final g c =
     let read = get_or_read c.args.rows.now c.args.instance r (omega arith) c.index-rows-instance.is in
     record { call = demand_of_final (omega arith, omega arith) (omega arith) r (read _) c.in-Idle.is c.in-Final.is; work = refl }
 
-pub returns-in-err-reach : goal.returns-in-err-reach
-returns-in-err-reach g c =
+pub returns-in_err-reach : goal.returns-in_err-reach
+returns-in_err-reach g c =
     let r = c.index-rows-instance.result in
     let read = get_or_read c.args.rows.now c.args.instance r (omega arith) c.index-rows-instance.is in
-    let p = err_from_is_err_and c.from-residual.result c.from-residual.ensures.1 in
+    let p = err_from_is_err_and c.from_residual.result c.from_residual.ensures.1 in
     rw (p.1, p.2) (record {
-      call = demand_of_dangling (omega arith, omega arith) (omega arith) r (read _) c.in-Idle.is c.in-default-mark.not-Final (c.reach.ensures.tells (omega arith) (omega arith)) _ c.in-err-reach.was;
+      call = demand_of_dangling (omega arith, omega arith) (omega arith) r (read _) c.in-Idle.is c.in_default-mark.not-Final (c.reach.ensures.tells (omega arith) (omega arith)) _ c.in_err-reach.was;
       work = c.reach.ensures.length;
     })
 
-pub offset-bounds-rows-instance-2 : goal.offset-bounds-rows-instance-2
-offset-bounds-rows-instance-2 g c = let l : c.args.instance < length c.args.rows.now = omega arith in search (rules, l)
+pub offset_bounds-rows-instance-2 : goal.offset_bounds-rows-instance-2
+offset_bounds-rows-instance-2 g c = let l : c.args.instance < length c.args.rows.now = omega arith in search (rules, l)
 
 pub iterate-rounds-requires : goal.iterate-rounds-requires
 iterate-rounds-requires g c =
     let e = g.S.System.equations c.args.system.now in
-    let opens = each_of c.size-size.ensures.size c.open-rows.ensures in
+    let opens = each_of c.size-size.ensures.size c.open_rows.ensures in
     (omega arith, pending_at_bottom g.S.Value.Lattice.bot e g.S.Value.Lattice.same c.reach.new.work opens)
 
 pub returns : goal.returns
@@ -50,12 +50,12 @@ returns g c =
     let bot = g.S.Value.Lattice.bot in
     let ended = c.iterate-rounds.new.rows in
     let size = c.size-size.ensures.size in
-    let closes = c.make-final-made-final.ensures in
+    let closes = c.make_final-made_final.ensures in
     let read = get_or_read c.args.rows.now c.args.instance r (omega arith) c.index-rows-instance.is in
-    let ends = get_or_read ended c.args.instance x (omega (arith, c.open-rows.ensures.length, c.iterate-rounds.ensures.length)) c.index-rows-instance-2.is in
+    let ends = get_or_read ended c.args.instance x (omega (arith, c.open_rows.ensures.length, c.iterate-rounds.ensures.length)) c.index-rows-instance-2.is in
     record {
-      call = demand_of_whole (omega arith, omega arith) (omega arith) r (read _) c.in-Idle.is c.in-default-mark.not-Final (c.reach.ensures.tells (omega arith) (omega arith)) _ c.in-ok-reach.was
-          c.reach.new.work (c.reach.ensures.marks (omega arith) (omega arith)) (each_of size c.open-rows.ensures)
+      call = demand_of_whole (omega arith, omega arith) (omega arith) r (read _) c.in-Idle.is c.in_default-mark.not-Final (c.reach.ensures.tells (omega arith) (omega arith)) _ c.in_ok-reach.was
+          c.reach.new.work (c.reach.ensures.marks (omega arith) (omega arith)) (each_of size c.open_rows.ensures)
           c.iterate-rounds.ensures (each_of size closes.rows) x (ends _) (closes.count ∙ ap (members (pending (rows_of bot ended))) size);
       work = c.reach.ensures.length;
     }

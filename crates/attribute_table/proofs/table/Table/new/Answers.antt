@@ -14,8 +14,8 @@ laws_hold : {V : Type 0} {bot least : V} {le order : V → V → Type 0} {lub : 
     LatticeLaws bot le lub same height rank → (e : Equations V) → least ≡ bot → ((x y : V) → order x y ↔ le x y) → Lawful least order e → TableLaws bot le same height e
 laws_hold laws e bottom order lawful = table_laws_by laws e bottom order lawful (calls_are_determined laws e (lawful_by bottom order lawful))
 
-pub returns-then-told-height-eq-TOLD-HEIGHT-LIMIT : goal.returns-then-told-height-eq-TOLD-HEIGHT-LIMIT
-returns-then-told-height-eq-TOLD-HEIGHT-LIMIT g c =
+pub returns-then-told_height-eq-TOLD_HEIGHT_LIMIT : goal.returns-then-told_height-eq-TOLD_HEIGHT_LIMIT
+returns-then-told_height-eq-TOLD_HEIGHT_LIMIT g c =
     record {
       made = not_made_too_high (omega arith);
       laws = laws_hold g.S.Value.Lattice.laws _ c.size-size.ensures.bottom c.size-size.ensures.order (g.S.System.lawful c.args.system.now);

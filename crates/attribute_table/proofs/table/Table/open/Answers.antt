@@ -22,24 +22,24 @@ returns-in-Final g c =
       work = refl;
     }
 
-pub returns-in-err-reach : goal.returns-in-err-reach
-returns-in-err-reach g c =
+pub returns-in_err-reach : goal.returns-in_err-reach
+returns-in_err-reach g c =
     let r = c.index-rows-instance.result in
     let read = get_or_read c.args.rows.now c.args.instance r (omega arith) c.index-rows-instance.is in
-    let p = err_from_is_err_and c.from-residual.result c.from-residual.ensures.1 in
+    let p = err_from_is_err_and c.from_residual.result c.from_residual.ensures.1 in
     rw (p.1, p.2) (record {
-      call = open_of_dangling (omega arith, omega arith) (omega arith) r (read _) c.in-Idle.is c.in-default.not-Final (c.reach.ensures.tells (omega arith) (omega arith)) _ c.in-err-reach.was;
+      call = open_of_dangling (omega arith, omega arith) (omega arith) r (read _) c.in-Idle.is c.in_default.not-Final (c.reach.ensures.tells (omega arith) (omega arith)) _ c.in_err-reach.was;
       session = tt;
       work = c.reach.ensures.length;
     })
 
-pub returns-in-ok-reach : goal.returns-in-ok-reach
-returns-in-ok-reach g c =
+pub returns-in_ok-reach : goal.returns-in_ok-reach
+returns-in_ok-reach g c =
     let r = c.index-rows-instance.result in
     let read = get_or_read c.args.rows.now c.args.instance r (omega arith) c.index-rows-instance.is in
     record {
-      call = open_of_whole (omega arith, omega arith) (omega arith) r (read _) c.in-Idle.is c.in-default.not-Final (c.reach.ensures.tells (omega arith) (omega arith)) _ c.in-ok-reach.was
-          c.reach.new.work (c.reach.ensures.marks (omega arith) (omega arith)) (each_of c.size-size.ensures.size c.open-rows.ensures);
+      call = open_of_whole (omega arith, omega arith) (omega arith) r (read _) c.in-Idle.is c.in_default.not-Final (c.reach.ensures.tells (omega arith) (omega arith)) _ c.in_ok-reach.was
+          c.reach.new.work (c.reach.ensures.marks (omega arith) (omega arith)) (each_of c.size-size.ensures.size c.open_rows.ensures);
       session = refl;
       work = c.reach.ensures.length;
     }

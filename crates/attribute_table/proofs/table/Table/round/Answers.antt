@@ -18,7 +18,7 @@ returns-then-count-eq0 g c =
     let at = c.in-Iterating-default in
     record {
       call = round_settles (omega arith) at.open c.if-open-instance.false at.is-0
-          c.evaluate-all-count.ensures c.saturating-add-rounds.ensures c.if-count-eq0.true;
+          c.evaluate_all-count.ensures c.saturating_add-rounds.ensures c.if-count-eq0.true;
       session = cc;
     }
 
@@ -27,10 +27,10 @@ returns-else-count-eq0 g c =
     let at = c.in-Iterating-default in
     record {
       call = changing_round (omega arith) at.open c.if-open-instance.false at.is-0
-          c.evaluate-all-count.ensures c.saturating-add-rounds.ensures c.if-count-eq0.false;
+          c.evaluate_all-count.ensures c.saturating_add-rounds.ensures c.if-count-eq0.false;
       session = (refl, omega arith);
     }
 
-pub returns-in-default : goal.returns-in-default
-returns-in-default g c =
-    record { call = kept (omega arith) (round_unfit (λ k. c.in-default.not-Iterating-0 (evaluation c.args.session.instance k))); session = refl }
+pub returns-in_default : goal.returns-in_default
+returns-in_default g c =
+    record { call = kept (omega arith) (round_unfit (λ k. c.in_default.not-Iterating-0 (evaluation c.args.session.instance k))); session = refl }

@@ -7,8 +7,8 @@ use Rattle.entries.proofs.grammar.Grammar.productions.Goals as goal
 pub returns : goal.returns
 returns c =
     let g = c.args.self.now in
-    let same = c.as-slice.ensures.value in
+    let same = c.as_slice.ensures.value in
     record {
       model = ap (map (production_of (vec_items g.references))) same;
-      tiles = subst (λ n. Tiles 0 c.as-slice.result.now n) (sym (references_count g.productions g.references (tiles g))) (subst (λ ps. Tiles 0 ps (vec_len g.references)) (sym same) (tiles g));
+      tiles = subst (λ n. Tiles 0 c.as_slice.result.now n) (sym (references_count g.productions g.references (tiles g))) (subst (λ ps. Tiles 0 ps (vec_len g.references)) (sym same) (tiles g));
     }

@@ -14,25 +14,25 @@ returns-then-production-len c =
     sym (ap (option_map (λ p. p.right)) (nth_past_map (production_of (vec_items g.references)) (vec_items g.productions) c.args.production past))
 
 -- the right side lies within the references
-within : (c : goal.After-as-slice) → c.index-p.result.now.first + c.index-p.result.now.len ≤ vec_len c.args.self.now.references
+within : (c : goal.After-as_slice) → c.index-p.result.now.first + c.index-p.result.now.len ≤ vec_len c.args.self.now.references
 within c =
     let g = c.args.self.now in
     let lt : c.args.production < length (vec_items g.productions) = omega (arith, g.productions.ok.0) in
     let h = tile_within 0 (vec_items g.productions) (vec_len g.references) c.args.production c.index-p.result.now (tiles g) lt in
     rw (sym c.index-p.ensures) at h
 
-pub overflow-add-result : goal.overflow-add-result
-overflow-add-result c = let h = within c in search (rules, h)
+pub overflow_add-result : goal.overflow_add-result
+overflow_add-result c = let h = within c in search (rules, h)
 
-pub offset-bounds-as-slice-p : goal.offset-bounds-as-slice-p
-offset-bounds-as-slice-p c =
+pub offset_bounds-as_slice-p : goal.offset_bounds-as_slice-p
+offset_bounds-as_slice-p c =
     let h = within c in
     let few = few_references c.args.self.now in
     let small : c.index-p.result.now.first ≤ 1024 = omega arith in
     search (rules, small)
 
-pub slice-bounds-result-end : goal.slice-bounds-result-end
-slice-bounds-result-end c = let h = within c in search (rules, h)
+pub slice_bounds-result-end : goal.slice_bounds-result-end
+slice_bounds-result-end c = let h = within c in search (rules, h)
 
 pub returns : goal.returns
 returns c =
@@ -40,5 +40,5 @@ returns c =
     let p = c.index-p.result.now in
     let lt : c.args.production < length (vec_items g.productions) = omega (arith, g.productions.ok.0) in
     let size : p.first + p.len - p.first ≡ p.len = omega arith in
-    (λ k. Some (map name_of (take (size k) (drop p.first (c.as-slice.ensures.value k)))))
+    (λ k. Some (map name_of (take (size k) (drop p.first (c.as_slice.ensures.value k)))))
     ∙ sym (ap (option_map (λ q. q.right)) (nth_read_map (production_of (vec_items g.references)) (vec_items g.productions) c.args.production p lt c.index-p.ensures))

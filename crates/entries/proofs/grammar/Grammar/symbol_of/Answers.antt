@@ -16,20 +16,20 @@ returns-in-Some c =
     let first = c.in-Some.ensures ∙ ap (λ xs. position (map name_of xs) n) c.deref.ensures.value in
     sym (position_append (names_of g.terminals) (names_of g.nonterminals) n ∙ ap (λ o. or_else o (option_map (λ m. length (names_of g.terminals) + m) (position (names_of g.nonterminals) n))) (sym first))
 
-pub overflow-add-result : goal.overflow-add-result
-overflow-add-result c =
+pub overflow_add-result : goal.overflow_add-result
+overflow_add-result c =
     let g = c.args.self.now in
     let n = name_of c.args.name.now in
-    let second = c.in-Some-position-of.ensures ∙ ap (λ xs. position (map name_of xs) n) c.deref-2.ensures.value in
-    let within = (is_from_position (names_of g.nonterminals) n c.in-Some-position-of.i (sym second)).0 in
+    let second = c.in-Some-position_of.ensures ∙ ap (λ xs. position (map name_of xs) n) c.deref-2.ensures.value in
+    let within = (is_from_position (names_of g.nonterminals) n c.in-Some-position_of.i (sym second)).0 in
     omega (arith, few_terminals g, few_nonterminals g, length-map (vec_items g.nonterminals) name_of, g.nonterminals.ok.0, within)
 
-pub returns-in-Some-position-of : goal.returns-in-Some-position-of
-returns-in-Some-position-of c =
+pub returns-in-Some-position_of : goal.returns-in-Some-position_of
+returns-in-Some-position_of c =
     let g = c.args.self.now in
     let n = name_of c.args.name.now in
-    let first = c.in-default.ensures ∙ ap (λ xs. position (map name_of xs) n) c.deref.ensures.value in
-    let second = c.in-Some-position-of.ensures ∙ ap (λ xs. position (map name_of xs) n) c.deref-2.ensures.value in
+    let first = c.in_default.ensures ∙ ap (λ xs. position (map name_of xs) n) c.deref.ensures.value in
+    let second = c.in-Some-position_of.ensures ∙ ap (λ xs. position (map name_of xs) n) c.deref-2.ensures.value in
     let size : length (names_of g.terminals) ≡ c.len.result = length-map (vec_items g.terminals) name_of ∙ sym g.terminals.ok.0 ∙ sym c.len.ensures in
     sym (position_append (names_of g.terminals) (names_of g.nonterminals) n
     ∙ (λ k. or_else (sym first k) (option_map (λ m. size k + m) (sym second k))))
@@ -38,7 +38,7 @@ pub returns-in-None : goal.returns-in-None
 returns-in-None c =
     let g = c.args.self.now in
     let n = name_of c.args.name.now in
-    let first = c.in-default.ensures ∙ ap (λ xs. position (map name_of xs) n) c.deref.ensures.value in
+    let first = c.in_default.ensures ∙ ap (λ xs. position (map name_of xs) n) c.deref.ensures.value in
     let second = c.in-None.ensures ∙ ap (λ xs. position (map name_of xs) n) c.deref-2.ensures.value in
     sym (position_append (names_of g.terminals) (names_of g.nonterminals) n
     ∙ (λ k. or_else (sym first k) (option_map (λ m. length (names_of g.terminals) + m) (sym second k))))

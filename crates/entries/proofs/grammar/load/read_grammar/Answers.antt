@@ -5,13 +5,13 @@ use Rattle.entry_reader.specs.Reads.{input_of, name_of}
 use Rattle.entries.proofs.Whole.{grammar_read}
 use Rattle.entries.proofs.grammar.load.read_grammar.Goals as goal
 
-pub invariant-of-result : goal.invariant-of-result
-invariant-of-result c =
+pub invariant_of-result : goal.invariant_of-result
+invariant_of-result c =
     let r = grammar_read (input_of c.new-reader.result) _ _ _ _ _ _ _
-    c.in-ok-read-kind.ensures
-    c.in-ok-read-declarations.ensures
-    (c.in-ok-read-declarations-2.ensures ∙ ap (λ xs. read_declarations loader_checks 1 64 (map name_of xs) (input_of c.read-declarations.new.reader)) c.as-slice.ensures.value)
-    (c.in-ok-read-productions.ensures.read ∙ ap (λ xs. read_productions loader_checks (map name_of xs) (input_of c.read-declarations-2.new.reader)) c.as-slice-2.ensures.value) in
+    c.in_ok-read_kind.ensures
+    c.in_ok-read_declarations.ensures
+    (c.in_ok-read_declarations-2.ensures ∙ ap (λ xs. read_declarations loader_checks 1 64 (map name_of xs) (input_of c.read_declarations.new.reader)) c.as_slice.ensures.value)
+    (c.in_ok-read_productions.ensures.read ∙ ap (λ xs. read_productions loader_checks (map name_of xs) (input_of c.read_declarations-2.new.reader)) c.as_slice-2.ensures.value) in
     let m = ap (read_grammar loader_checks) (sym c.new-reader.ensures) ∙ r in
     let law = grammar_lawful c.args.file.now _ _ m in
-    (∣ record { lawful = law; tiles = c.in-ok-read-productions.ensures.tiles } ∣₁, tt)
+    (∣ record { lawful = law; tiles = c.in_ok-read_productions.ensures.tiles } ∣₁, tt)

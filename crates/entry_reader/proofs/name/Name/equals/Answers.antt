@@ -19,8 +19,8 @@ take_min a n m e =
 same : (c : goal.After-eq) → c.eq.result ≡ same_text c.args.self.now.text.now c.args.other.now.text.now
 unfolding same_text
 same c =
-    let a = take_min _ 16 _ c.min-n.ensures ∙ ap (take 16) c.as-bytes-a.ensures.value in
-    let b = take_min _ 16 _ c.min-m.ensures ∙ ap (take 16) c.as-bytes-b.ensures.value in
+    let a = take_min _ 16 _ c.min-n.ensures ∙ ap (take 16) c.as_bytes-a.ensures.value in
+    let b = take_min _ 16 _ c.min-m.ensures ∙ ap (take 16) c.as_bytes-b.ensures.value in
     let P : List ℕ × List ℕ → Type 0 = λ p. Decides c.eq.result (p.0 ≡ p.1) in
     same_from_decides _ _ (subst P (λ k. (a k, b k)) (slice_eq-Decides Decides-eqb _ _ _ c.eq.ensures)) (bytes_eq-Decides _ _)
 

@@ -6,25 +6,25 @@ use Rattle.entry_reader.specs.Reads.{input_of}
 use Rattle.entry_reader.proofs.Fronts.{byte_rest, front_more, name_byte_end, name_byte_good, name_byte_wrong}
 use Rattle.entry_reader.proofs.reader.Reader.pass_name.Goals as goal
 
-pub returns-in-err-b : goal.returns-in-err-b
-returns-in-err-b c =
+pub returns-in_err-b : goal.returns-in_err-b
+returns-in_err-b c =
     let front = take c.loop-i.i c.args.self.now.rest.now in
-    let e = series_bad (λ _. read_name_byte) c.args.len c.loop-i.i c.loop-i-test.true front (input_of c.loop-i.self) _ (name_byte_end (input_of c.loop-i.self) _ c.in-err-b.ensures) in
-    let p = err_from_is_err_and c.from-residual.result c.from-residual.ensures.1 in
+    let e = series_bad (λ _. read_name_byte) c.args.len c.loop-i.i c.loop-i-test.true front (input_of c.loop-i.self) _ (name_byte_end (input_of c.loop-i.self) _ c.in_err-b.ensures) in
+    let p = err_from_is_err_and c.from_residual.result c.from_residual.ensures.1 in
     rw (p.1, p.2) (record { read = sym (c.loop-i.invariant.0 ∙ e); within = tt })
 
-pub returns-then-not-is-printable : goal.returns-then-not-is-printable
-returns-then-not-is-printable c =
+pub returns-then-not-is_printable : goal.returns-then-not-is_printable
+returns-then-not-is_printable c =
     let front = take c.loop-i.i c.args.self.now.rest.now in
-    let e = series_bad (λ _. read_name_byte) c.args.len c.loop-i.i c.loop-i-test.true front (input_of c.loop-i.self) _ (name_byte_wrong (input_of c.loop-i.self) _ _ c.in-ok-b.ensures c.if-not-is-printable.ensures) in
+    let e = series_bad (λ _. read_name_byte) c.args.len c.loop-i.i c.loop-i-test.true front (input_of c.loop-i.self) _ (name_byte_wrong (input_of c.loop-i.self) _ _ c.in_ok-b.ensures c.if-not-is_printable.ensures) in
     record { read = sym (c.loop-i.invariant.0 ∙ e); within = tt }
 
 pub loop-i-preserved : goal.loop-i-preserved
 loop-i-preserved c =
     let all = c.args.self.now.rest.now in
     let front = take c.loop-i.i all in
-    let e = series_more (λ _. read_name_byte) c.args.len c.loop-i.i c.loop-i-test.true front (input_of c.loop-i.self) _ _ (name_byte_good (input_of c.loop-i.self) _ _ c.in-ok-b.ensures c.if-not-is-printable.ensures) in
-    let f = front_more all c.byte.new.self.rest.now c.loop-i.i _ (sym c.loop-i.invariant.1 ∙ byte_rest _ _ _ _ c.in-ok-b.ensures) in
+    let e = series_more (λ _. read_name_byte) c.args.len c.loop-i.i c.loop-i-test.true front (input_of c.loop-i.self) _ _ (name_byte_good (input_of c.loop-i.self) _ _ c.in_ok-b.ensures c.if-not-is_printable.ensures) in
+    let f = front_more all c.byte.new.self.rest.now c.loop-i.i _ (sym c.loop-i.invariant.1 ∙ byte_rest _ _ _ _ c.in_ok-b.ensures) in
     (c.loop-i.invariant.0 ∙ e ∙ ap (λ t. read_name_bytes (c.args.len - (c.loop-i.i + 1)) t (input_of c.byte.new.self)) (sym f.0), sym f.1, omega (arith, f.2))
 
 pub returns : goal.returns

@@ -104,7 +104,7 @@ impl System for ExampleSystem {
     fn start(&self, instance: usize) -> Value {
         match self.instance(instance) {
             Some(found) => found.start,
-            None => PairLattice::<YesNo, NumberSet>::bottom(),
+            None => <Pair<YesNo, NumberSet> as Lattice>::bottom(),
         }
     }
 

@@ -39,7 +39,7 @@ fn joins(
 fn bottoms(heap: Global, system: &ExampleSystem) -> Result<Vec<Value>, AllocError> {
     let mut values = Vec::new(heap);
     for _ in 0..system.size() {
-        values.push(PairLattice::<YesNo, NumberSet>::bottom())?;
+        values.push(<Pair<YesNo, NumberSet> as Lattice>::bottom())?;
     }
     Ok(values)
 }

@@ -57,5 +57,5 @@ fn pairs(rt: HostRuntime) {
     };
     assert!(rt; joins(left, right) && joins(right, right));
     assert!(rt; !left.below(right) && !right.below(left) && !left.equal(right));
-    assert_eq!(rt; PairLattice::<YesNo, NumberSet>::told_height(), 65);
+    assert_eq!(rt; <Pair<YesNo, NumberSet> as Lattice>::told_height(), 65);
 }

@@ -228,7 +228,7 @@ fn making(rt: HostRuntime) -> Result<(), Fail> {
     assert!(rt; has(&short, 0, Mark::Pending, value(false, 9)));
     let mut rows = some_rows(heap, 6)?;
     assert_eq!(rt; made(Table::new(&system, &mut rows)), 0);
-    let bottom = PairLattice::<YesNo, NumberSet>::bottom();
+    let bottom = <Pair<YesNo, NumberSet> as Lattice>::bottom();
     assert!(rt; has(&rows, 4, Mark::Untouched, bottom));
     assert!(rt; has(&rows, 5, Mark::Pending, value(false, 9)));
     Ok(())

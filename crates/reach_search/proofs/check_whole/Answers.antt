@@ -5,7 +5,7 @@ use Rattle.std.proofs.lemmas.Bool.{eqb-true, eqb-false}
 use Rattle.reach_search.specs.Queued.{Marked}
 use Rattle.reach_search.proofs.Lowest.{none_of_first_more, first_instance}
 use Rattle.reach_search.proofs.check_whole.Goals as goal
-use Rattle.reach_search.proofs.check_whole.Goals.{then-is-marked+in-ok-check-operands, else-is-marked}
+use Rattle.reach_search.proofs.check_whole.Goals.{then-is_marked+in_ok-check_operands, else-is_marked}
 
 pub returns-in_err-check_operands : goal.returns-in_err-check_operands
 returns-in_err-check_operands g c =
@@ -21,8 +21,8 @@ loop-instance-preserved g c =
     none_of_first_more e (Marked e.size c.args.marks.now) _ c.loop-instance.invariant
     (λ m.
     elim c.if-is_marked.branch [
-      | then-is-marked+in-ok-check-operands w ↦ w.in_ok-check_operands.ensures
-      | else-is-marked w ↦ absurd (eqb-false _ _ (sym c.is_marked.ensures ∙ w.if-is_marked.false) m.1)
+      | then-is_marked+in_ok-check_operands w ↦ w.in_ok-check_operands.ensures
+      | else-is_marked w ↦ absurd (eqb-false _ _ (sym c.is_marked.ensures ∙ w.if-is_marked.false) m.1)
     ])
 
 pub returns : goal.returns

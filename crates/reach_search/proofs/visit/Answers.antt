@@ -4,7 +4,7 @@ use Rattle.reach_search.specs.Queued.{Queued}
 use Rattle.reach_search.proofs.Adding.{adds_at}
 use Rattle.reach_search.proofs.Searching.{adds_operand, adds_dangling, adds_all}
 use Rattle.reach_search.proofs.visit.Goals as goal
-use Rattle.reach_search.proofs.visit.Goals.{in-Ok, in-default}
+use Rattle.reach_search.proofs.visit.Goals.{in-Ok, in_default}
 
 pub add-found-requires : goal.add-found-requires
 add-found-requires g c =
@@ -19,7 +19,7 @@ loop-index-preserved g c =
     let e = g.S.System.equations c.args.system.now in
     elim c.match-operand.branch [
       | in-Ok w ↦ adds_operand e c.loop-index.invariant (sym c.operand.ensures ∙ w.in-Ok.is) (adds_at c.size-size.ensures.size w.work-is w.found-is w.add-found.ensures)
-      | in-default w ↦ adds_dangling e (adds_at refl w.work-is w.found-is c.loop-index.invariant) (sym c.operand.ensures ∙ w.in-default.is)
+      | in_default w ↦ adds_dangling e (adds_at refl w.work-is w.found-is c.loop-index.invariant) (sym c.operand.ensures ∙ w.in_default.is)
     ]
 
 pub returns : goal.returns

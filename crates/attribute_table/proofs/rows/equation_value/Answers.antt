@@ -6,7 +6,7 @@ use Rattle.table_model.specs.Rows.{row, values}
 use Rattle.table_model.specs.declared.row.Mark.TheVariants.{Untouched}
 use Rattle.attribute_table.specs.Lent.{rows_of}
 use Rattle.attribute_table.proofs.rows.equation_value.Goals as goal
-use Rattle.attribute_table.proofs.rows.equation_value.Goals.{in-Ok, in-default}
+use Rattle.attribute_table.proofs.rows.equation_value.Goals.{in-Ok, in_default}
 
 -- An operand of a lawful system is below n, if the system's size is at most n.
 operand_below : {V : Type 0} {bot : V} {le : V → V → Type 0} {e : Equations V} → Lawful bot le e → {n : ℕ} → e.size ≤ n → (i k j : ℕ) → e.operand i k ≡ Ok j → j < n
@@ -42,5 +42,5 @@ loop-k-preserved g c =
           let below = operand_below (g.S.System.lawful c.args.system.now) c.requires i k j q in
           let read = get_or_read rows j h.index-rows-j.result below h.index-rows-j.is (row Untouched bot) in
           taken e w i k _ _ c.loop-k.invariant j _ q (ap (λ r. r.value) read) (h.so_far-is ∙ h.step-so_far.ensures)
-      | in-default h ↦ through e w i k _ _ c.loop-k.invariant (Err h.in-default.field-0) (sym c.operand.ensures ∙ h.in-default.is) h.so_far-is
+      | in_default h ↦ through e w i k _ _ c.loop-k.invariant (Err h.in_default.field-0) (sym c.operand.ensures ∙ h.in_default.is) h.so_far-is
     ]

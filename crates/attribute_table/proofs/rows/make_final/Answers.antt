@@ -3,7 +3,7 @@ use Rattle.std.proofs.Common.{sym, ap, arith}
 use Rattle.attribute_table.specs.Effects.{closed_as}
 use Rattle.attribute_table.proofs.Counting.{counting_written, counting_kept, closed_kept}
 use Rattle.attribute_table.proofs.rows.make_final.Goals as goal
-use Rattle.attribute_table.proofs.rows.make_final.Goals.{in-Pending, in-default}
+use Rattle.attribute_table.proofs.rows.make_final.Goals.{in-Pending, in_default}
 
 pub loop-i-preserved : goal.loop-i-preserved
 loop-i-preserved g c =
@@ -13,7 +13,7 @@ loop-i-preserved g c =
       | in-Pending w ↦
           counting_written bot _ _ _ _ _ c.loop-i.invariant (omega arith) r c.index-rows-i.is _ _ _ w.rows-is w.count-is w.in-Pending.is
           (ap (λ m. closed_as bot m r) (sym w.in-Pending.is))
-      | in-default w ↦
-          let not = w.in-default.not-Pending in
+      | in_default w ↦
+          let not = w.in_default.not-Pending in
           counting_kept bot _ _ _ _ _ c.loop-i.invariant (omega arith) r c.index-rows-i.is _ _ w.rows-is w.count-is not (closed_kept bot r r.mark not)
     ]

@@ -3,7 +3,7 @@ use Rattle.std.proofs.Common.{◌≡◌, ℕ, ◌+◌, ◌<◌, ◌≤◌, get_o
 use Rattle.std.proofs.lemmas.List.{get_or_read}
 use Rattle.equations.specs.Equations.{Equations, Operand, Lawful, stepped, after}
 use Rattle.equations.proofs.work.equation_value.Goals as goal
-use Rattle.equations.proofs.work.equation_value.Goals.{in-Ok, in-default}
+use Rattle.equations.proofs.work.equation_value.Goals.{in-Ok, in_default}
 
 -- An operand of a lawful system is below n, if the system's size is at most n.
 operand_below : {V : Type 0} {bot : V} {le : V → V → Type 0} {e : Equations V} → Lawful bot le e → {n : ℕ} → e.size ≤ n → (i k j : ℕ) → e.operand i k ≡ Ok j → j < n
@@ -33,5 +33,5 @@ loop-k-preserved g c =
           let below = operand_below (g.S.System.lawful c.args.system.now) c.requires i k j q in
           let read = get_or_read values j w.index-values-j.result below w.index-values-j.is bot in
           one_more e (λ z. get_or values z bot) i k (Ok j) _ q (w.so_far-is ∙ w.step-so_far.ensures ∙ λ d. e.step i k (c.loop-k.invariant d) (read d))
-      | in-default w ↦ one_more e (λ z. get_or values z bot) i k (Err w.in-default.field-0) _ (sym c.operand.ensures ∙ w.in-default.is) (w.so_far-is ∙ c.loop-k.invariant)
+      | in_default w ↦ one_more e (λ z. get_or values z bot) i k (Err w.in_default.field-0) _ (sym c.operand.ensures ∙ w.in_default.is) (w.so_far-is ∙ c.loop-k.invariant)
     ]

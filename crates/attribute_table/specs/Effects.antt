@@ -1,9 +1,9 @@
 -- What calls do to rows that are lent as a list. Assumes nothing.
-use Rattle.std.specs.Prelude.{◌≡◌, ℕ, ◌<◌, ◌≤◌, Bool, true, false, eqb, List, length, get_or}
+use Rattle.std.specs.Prelude.{◌≡◌, ℕ, ◌<◌, ◌≤◌, Bool, true, false, List, length}
 use Rattle.equations.specs.Equations.{Equations}
 use Rattle.equations.specs.Rounds.{swept, changes, rounds, round_changes, members}
 use Rattle.table_model.specs.Calls.{counted}
-use Rattle.table_model.specs.Rows.{row, is_pending, pending, values}
+use Rattle.table_model.specs.Rows.{row, pending, values}
 use Rattle.table_model.specs.declared.record.State.{State}
 use Rattle.table_model.specs.declared.record.State.TheVariants.{Idle}
 use Rattle.table_model.specs.declared.row.Mark.{Mark}

@@ -1,7 +1,7 @@
 -- A table whose rows are lent as a list, and what each of its calls comes to. Assumes nothing.
-use Rattle.std.specs.Prelude.{◌≡◌, ℕ, ◌*◌, ◌<◌, ◌≤◌, min, Bool, List, length, drop, Ok, Err, Result, slice_index_or}
+use Rattle.std.specs.Prelude.{◌≡◌, ℕ, ◌*◌, ◌<◌, ◌≤◌, Bool, List, length, drop, Ok, Err, Result, slice_index_or}
 use Rattle.equations.specs.Equations.{Equations}
-use Rattle.table_model.specs.Calls.{Call, Answer, refused, TableModel}
+use Rattle.table_model.specs.Calls.{Call, Answer, refused}
 use Rattle.table_model.specs.Rows.{Rows, row}
 use Rattle.table_model.specs.Runs.{New}
 use Rattle.table_model.specs.Steps.{Step, table}

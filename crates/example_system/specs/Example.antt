@@ -1,5 +1,5 @@
 -- The equations of a system that is written down by hand. Assumes nothing.
-use Rattle.std.specs.Prelude.{ℕ, min, cond, ◌&&◌, List, Some, None, Ok, Err, vec_items, vec_len, Option, Result, nat_lt}
+use Rattle.std.specs.Prelude.{ℕ, min, cond, Some, None, Ok, Err, vec_items, vec_len, Option, Result, nat_lt}
 use Rattle.equations.specs.Equations.{Equations}
 use Rattle.lattices.specs.Pairs.{pair, pair_lub}
 use Rattle.lattices.specs.Sets.{empty_set, set_union}

@@ -1,7 +1,7 @@
 -- The system follows the rules of a system. Assumes nothing.
 use Rattle.std.specs.Prelude.{◌≡◌, ℕ, ◌+◌, ◌<◌, ◌≤◌, min, Bool, true, false, cond, List, length, Some, None, Ok, Err, vec_items, vec_len, Option, Result, nat_lt, slice_index_or, refl}
 use Rattle.std.proofs.Common.{sym, ap, ◌∙◌, ⊎_elim, arith}
-use Rattle.equations.specs.Equations.{Equations, Lawful}
+use Rattle.equations.specs.Equations.{Lawful}
 use Rattle.lattices.specs.Laws.{LatticeLaws}
 use Rattle.lattices.specs.Pairs.{pair, pair_le, pair_lub, pair_same, pair_rank, pair_laws}
 use Rattle.lattices.specs.Sets.{Subset, empty_set, set_union, same_set, set_size, set_laws}

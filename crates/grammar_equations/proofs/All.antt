@@ -1,10 +1,7 @@
 -- The least solution of a grammar's equations says exactly what its derivations give. Assumes nothing.
-use Rattle.std.proofs.Common.{◌≡◌, ℕ, ◌+◌, ◌<◌, ◌↔◌, arith}
-use Rattle.equations.specs.Reach.{ReachesDangling}
-use Rattle.grammar_equations.specs.Derivations.{DerivesDangling, PrecedesDangling}
+use Rattle.std.proofs.Common.{ℕ, ◌+◌, ◌<◌, ◌↔◌, arith}
 use Rattle.grammar_equations.specs.Exactness.{Exactness}
-use Rattle.grammar_equations.specs.GrammarEquations.{grammar_equations}
-use Rattle.grammar_equations.specs.Instances.{symbol, follow, number}
+use Rattle.grammar_equations.specs.Instances.{symbol, follow}
 use Rattle.grammar_equations.specs.Rules.{Rules, WellFormed, symbol_count}
 use Rattle.grammar_equations.proofs.Bridge.{dangling_bridge, whole_bridge}
 use Rattle.grammar_equations.proofs.Exact.{exact_symbol, exact_follow, dangling_symbol, dangling_follow}

@@ -1,5 +1,5 @@
 -- The instances of a grammar's system, and their numbers. Assumes nothing.
-use Rattle.std.specs.Prelude.{◌≡◌, ℕ, zero, suc, ◌+◌, ◌-◌, ◌<◌, ◌≤◌, Bool, cond, List, [], ◌∷◌, length, Some, None, Option, nat_lt}
+use Rattle.std.specs.Prelude.{◌≡◌, ℕ, suc, ◌+◌, ◌-◌, ◌<◌, ◌≤◌, cond, List, [], ◌∷◌, length, nat_lt}
 use Rattle.grammar_equations.specs.Rules.{Rule, Rules, symbol_count, rule_count, name_count, first_name, right_of}
 
 -- A symbol; the suffix of production p from its k-th name on; the occurrence of the k-th right-side name of production p; the follow of a nonterminal.

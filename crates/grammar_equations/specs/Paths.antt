@@ -1,5 +1,5 @@
 -- What an instance of a grammar's system depends on. Assumes nothing.
-use Rattle.std.specs.Prelude.{◌≡◌, List, ◌∷◌, Ok, Err}
+use Rattle.std.specs.Prelude.{List, ◌∷◌, Ok, Err}
 use Rattle.references.specs.declared.Dangling.{Dangling}
 use Rattle.grammar_equations.specs.GrammarEquations.{InstanceOperand, operands}
 use Rattle.grammar_equations.specs.Instances.{Instance}

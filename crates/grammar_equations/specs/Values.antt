@@ -1,5 +1,5 @@
 -- The values of a grammar's system: whether something may derive the empty form, and the numbers of symbols. Assumes nothing.
-use Rattle.std.specs.Prelude.{ℕ, ◌^◌, ◌<◌, ◌≤◌, Bool, true, false, cond, nat_lt}
+use Rattle.std.specs.Prelude.{ℕ, ◌^◌, ◌<◌, ◌≤◌, Bool, true, cond, nat_lt}
 use Rattle.std.proofs.Common.{arith, lit<, pow_mono}
 use Rattle.std.proofs.lemmas.Bool.{cond_both, ltb-true}
 use Rattle.lattices.specs.Pairs.{pair, pair_le, pair_lub}

@@ -1,5 +1,5 @@
 -- The calls of a table, and their answers. Assumes nothing.
-use Rattle.std.specs.Prelude.{◌≡◌, ℕ, ◌+◌, ◌-◌, ◌^◌, ◌<◌, ◌≤◌, min, Bool, cond, ◌⊎◌}
+use Rattle.std.specs.Prelude.{◌≡◌, ℕ, ◌+◌, ◌-◌, ◌^◌, ◌<◌, ◌≤◌, min, ◌⊎◌}
 use Rattle.equations.specs.Equations.{Equations}
 use Rattle.equations.specs.Reach.{Reach, DanglesAt}
 use Rattle.references.specs.declared.Dangling.{Dangling}

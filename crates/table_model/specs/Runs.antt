@@ -1,11 +1,11 @@
 -- Lists of calls with their answers, from a table on, and what they tell. Assumes nothing.
-use Rattle.std.specs.Prelude.{◌≡◌, ℕ, zero, suc, ◌+◌, ◌<◌, Bool, true, false, List, [], ◌∷◌, ◌++◌, ◌≢◌}
+use Rattle.std.specs.Prelude.{◌≡◌, ℕ, zero, suc, ◌+◌, ◌<◌, Bool, true, false, List, [], ◌∷◌, ◌≢◌}
 use Rattle.equations.specs.Equations.{Equations}
 use Rattle.equations.specs.Reach.{Reach, Uses, WholeInstance, Least}
 use Rattle.table_model.specs.declared.record.State.TheVariants.{Idle}
 use Rattle.table_model.specs.declared.row.Mark.TheVariants.{Untouched, Final}
-use Rattle.table_model.specs.Calls.{Call, open_at, round_of, close_of, give_up_open, give_up_settled, demand_at, read_at, Result, Answer, refused, opened, rounded, closed, gave_up, demanded, valued, TableModel}
-use Rattle.table_model.specs.Rows.{Rows, row}
+use Rattle.table_model.specs.Calls.{Call, close_of, demand_at, Result, Answer, refused, opened, rounded, closed, gave_up, demanded, valued, TableModel}
+use Rattle.table_model.specs.Rows.{row}
 use Rattle.table_model.specs.Steps.{Step}
 
 -- A call and its answer.

@@ -1,5 +1,5 @@
 -- What each call does: the table before, the call, its answer, and the table after. Assumes nothing.
-use Rattle.std.specs.Prelude.{◌≡◌, ℕ, suc, ◌<◌, ◌≤◌, Bool, cond, ◌==◌, ◌≢◌}
+use Rattle.std.specs.Prelude.{◌≡◌, ℕ, ◌<◌, ◌≤◌, Bool, cond, ◌==◌, ◌≢◌}
 use Rattle.equations.specs.Equations.{Equations}
 use Rattle.equations.specs.Reach.{Whole}
 use Rattle.equations.specs.Rounds.{rounds, round_changes}
@@ -7,9 +7,9 @@ use Rattle.table_model.specs.declared.fault.DanglingOperand.{DanglingOperand}
 use Rattle.table_model.specs.declared.fault.TableFault.TheVariants as fault
 use Rattle.table_model.specs.declared.record.State.{State}
 use Rattle.table_model.specs.declared.record.State.TheVariants.{Idle, Iterating, Settled}
-use Rattle.table_model.specs.declared.row.Mark.TheVariants.{Untouched, Pending, Final}
+use Rattle.table_model.specs.declared.row.Mark.TheVariants.{Final}
 use Rattle.table_model.specs.Calls.{Call, open_at, round_of, close_of, give_up_open, give_up_settled, demand_at, read_at, Result, Answer, refused, opened, rounded, closed, gave_up, demanded, valued, TableModel, evaluation, counted, LowestDangling}
-use Rattle.table_model.specs.Rows.{Rows, pending, values, row, Opened, Rounded, MadeFinal, Released, pending_count}
+use Rattle.table_model.specs.Rows.{Rows, pending, values, Opened, Rounded, MadeFinal, Released, pending_count}
 
 -- The state after a round that changed `count` rows.
 abbrev pub round_state : ℕ → ℕ → ℕ → State

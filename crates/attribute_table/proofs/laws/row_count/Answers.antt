@@ -5,7 +5,7 @@ use Rattle.attribute_table.proofs.laws.row_count.Goals as goal
 
 pub returns : goal.returns
 returns g c =
-    let laws = g.Value.Lattice.laws in
+    let laws = g.S.Value.Lattice.laws in
     let e = g.S.System.equations c.args.system.now in
     let lawful = lawful_by c.size.ensures.bottom c.size.ensures.order (g.S.System.lawful c.args.system.now) in
     record { value = c.size.ensures.size; laws = table_laws laws e lawful (calls_are_determined laws e lawful) }

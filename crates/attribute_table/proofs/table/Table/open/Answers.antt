@@ -22,23 +22,23 @@ returns-in-Final g c =
       work = refl;
     }
 
-pub returns-in_err-reach : goal.returns-in_err-reach
-returns-in_err-reach g c =
+pub returns-in_err-reach-in-Idle : goal.returns-in_err-reach-in-Idle
+returns-in_err-reach-in-Idle g c =
     let r = c.index-rows-instance.result in
     let read = get_or_read c.args.rows.now c.args.instance r (omega arith) c.index-rows-instance.is in
     let p = err_from_is_err_and c.from_residual.result c.from_residual.ensures.1 in
     rw (p.1, p.2) (record {
-      call = open_of_dangling (omega arith, omega arith) (omega arith) r (read _) c.in-Idle.is c.in_default.not-Final (c.reach.ensures.tells (omega arith) (omega arith)) _ c.in_err-reach.was;
+      call = open_of_dangling (omega arith, omega arith) (omega arith) r (read _) c.in-Idle.is c.in_default.not-Final (c.reach.ensures.tells (omega arith) (omega arith)) _ c.in_err-reach-in-Idle.was;
       session = tt;
       work = c.reach.ensures.length;
     })
 
-pub returns-in_ok-reach : goal.returns-in_ok-reach
-returns-in_ok-reach g c =
+pub returns-in_ok-reach-in-Idle : goal.returns-in_ok-reach-in-Idle
+returns-in_ok-reach-in-Idle g c =
     let r = c.index-rows-instance.result in
     let read = get_or_read c.args.rows.now c.args.instance r (omega arith) c.index-rows-instance.is in
     record {
-      call = open_of_whole (omega arith, omega arith) (omega arith) r (read _) c.in-Idle.is c.in_default.not-Final (c.reach.ensures.tells (omega arith) (omega arith)) _ c.in_ok-reach.was
+      call = open_of_whole (omega arith, omega arith) (omega arith) r (read _) c.in-Idle.is c.in_default.not-Final (c.reach.ensures.tells (omega arith) (omega arith)) _ c.in_ok-reach-in-Idle.was
           c.reach.new.work (c.reach.ensures.marks (omega arith) (omega arith)) (each_of c.size-size.ensures.size c.open_rows.ensures);
       session = refl;
       work = c.reach.ensures.length;

@@ -1,4 +1,3 @@
-use Rattle.std.proofs.Common.{rules}
 use lib.Bits.{or_lt}
 use Rattle.lattices.specs.Sets.{has_union}
 use Rattle.lattices.proofs.number_set.NumberSet.union.Goals as goal

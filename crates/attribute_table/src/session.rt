@@ -1,14 +1,15 @@
 // Sessions, and what calls answer.
-ghost use Rattle.std.specs.Prelude.{◌≡◌};
+ghost use Rattle.std.specs.Prelude.{◌≡◌, ◌≤◌};
 
-// An evaluation that iterates. It ends by a close or a give-up: what dropping it requires nobody can show.
+// An evaluation that iterates. It ends by a close or a give-up: only at an instance that no system has may a session be dropped,
+// and an open gives a session at an instance of its system.
 pub struct OpenSession {
     pub(crate) instance: usize,
 }
 
 impl Drop for OpenSession {
     fn drop(self)
-        requires { ⊥ }
+        requires { 4096 ≤ self.instance }
     {
         let OpenSession { instance: _ } = self;
     }
@@ -31,7 +32,7 @@ pub struct SettledSession {
 
 impl Drop for SettledSession {
     fn drop(self)
-        requires { ⊥ }
+        requires { 4096 ≤ self.instance }
     {
         let SettledSession { instance: _ } = self;
     }

@@ -5,3 +5,6 @@ pub mod laws;
 mod rows;
 pub mod session;
 pub mod table;
+
+// The record, the rows and the faults of a table, defined with the laws.
+pub use table_model::{fault, record, row};

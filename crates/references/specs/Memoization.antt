@@ -17,7 +17,7 @@ memo_declarations declarations s = max (declarations s.below) s.declarations
 abbrev pub memo_names : {R : Type 0} → (R → ℕ → Option ℕ) → Memoized R → ℕ → Option ℕ
 memo_names names s r = slice_index_or (vec_items s.answers) r (names s.below r)
 
--- No answer is remembered yet, and there is room for memoLimit answers.
+-- No answer is remembered yet, and there is room for memo_limit answers.
 pub record Reserved (m : Memo) : Type 0 where
   pub empty : vec_items m.answers ≡ []
   pub room : memo_limit ≤ vec_capacity m.answers

@@ -6,7 +6,7 @@ use Rattle.std.specs.List.{range_with_len}
 abbrev pub memo_limit : ℕ
 memo_limit = 1024
 
--- The declarations that the first references name, in order: of as many references as there are, at most memoLimit.
+-- The declarations that the first references name, in order: of as many references as there are, at most memo_limit.
 abbrev pub first_answers : ℕ → (ℕ → Option ℕ) → List (Option ℕ)
 first_answers references names = map names (range_with_len 0 (min references memo_limit))
 

@@ -1,5 +1,7 @@
 // The table's calls on small systems.
 use crate::largest::{Largest, NoEquations};
+use attribute_table::fault::TableFault;
+use attribute_table::row::{Mark, Row};
 use attribute_table::session::{Closed, OpenSession, Rounded, SettledSession};
 use attribute_table::table::Table;
 use equations::System;
@@ -11,8 +13,6 @@ use lattices::yes_no::YesNo;
 use references::Dangling;
 use std::alloc::{AllocError, Global};
 use std::test::Fail;
-use table_model::fault::TableFault;
-use table_model::row::{Mark, Row};
 
 fn value(yes: bool, number: usize) -> Value {
     Pair {

@@ -1,5 +1,5 @@
 -- What loading a file means, in terms of encodings, places and bytes. Assumes nothing.
-use Rattle.std.specs.Prelude.{◌≡◌, ℕ, ◌+◌, ◌<◌, ◌≤◌, true, false, ◌⊎◌, ◌↔◌, List, [], ◌∷◌, length, take, drop, Some, None, Ok, Err, Result, ◌≢◌, slice_index}
+use Rattle.std.specs.Prelude.{◌≡◌, ℕ, ◌+◌, ◌<◌, ◌≤◌, true, false, ◌⊎◌, ◌↔◌, List, length, take, drop, Some, None, Ok, Err, Result, ◌≢◌, slice_index}
 use Rattle.std.specs.List.{AllByRecursion as All}
 use Rattle.entry_format.specs.declared.fault.LoadFault.{LoadFault}
 use Rattle.entry_format.specs.declared.fault.LoadFault.TheVariants.{Read, Names, WrongKind, OverLimit, TrailingBytes}

@@ -5,7 +5,7 @@ use Rattle.std.specs.List.{AllByRecursion as All}
 use Rattle.std.proofs.ByRecursion.{IsAscii-from_all, All-push, All-weaker}
 use Rattle.std.proofs.lemmas.Str.{IsUtf8-from_ascii}
 use Rattle.entry_format.specs.declared.fault.ReadFault.{ReadFault}
-use Rattle.entry_format.specs.declared.fault.ReadFault.TheVariants.{EndOfFile, BadName}
+use Rattle.entry_format.specs.declared.fault.ReadFault.TheVariants.{BadName}
 use Rattle.entry_format.specs.Reading.{Input, Parsed, got, bad, and_then, byte_of, printable, read_name_bytes, read_name_byte, read_byte, input}
 
 -- a byte that was read, and the bytes behind it

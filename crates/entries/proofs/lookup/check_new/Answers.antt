@@ -1,4 +1,4 @@
-use Rattle.std.proofs.Common.{map, sym, ap, ◌∙◌, rules}
+use Rattle.std.proofs.Common.{map, rules}
 use Rattle.entry_format.proofs.PositionAppend.{found_append}
 use Rattle.entry_reader.specs.Reads.{name_of}
 use Rattle.entries.proofs.lookup.check_new.Goals as goal

@@ -1,10 +1,10 @@
 -- What is known of every grammar. Assumes nothing.
-use Rattle.std.proofs.Common.{◌≡◌, ℕ, ◌+◌, ◌<◌, ◌≤◌, false, List, [], ◌∷◌, map, length, vec_items, vec_len, sym, ap, ◌∙◌, ⊎_elim, arith}
+use Rattle.std.proofs.Common.{◌≡◌, ℕ, ◌+◌, ◌≤◌, false, List, [], ◌∷◌, vec_items, vec_len, ⊎_elim, arith}
 use mathlib.Core.Bool.{Bool-set}
 use mathlib.Core.HLevel.{×_prop, Unit-prop, ⊥_prop}
 use mathlib.Core.Logic.{∥∥₁_elim}
 use native.Mathlib.Nat.{ℕ_set}
-use Rattle.std.specs.List.{AllByRecursion as All}
+use Rattle.std.specs.List.{AllByRecursion}
 use Rattle.std.proofs.lemmas.List.{length-map}
 use Rattle.std.proofs.lemmas.Bool.{cases_lt}
 use Rattle.entry_format.specs.Grammars.{symbols}
@@ -21,7 +21,7 @@ tiles_prop : (at : ℕ) (ps : List Production) (n : ℕ) → IsProp (Tiles at ps
 tiles_prop at [] n = ℕ_set at n
 tiles_prop at (p ∷ ps) n = ×_prop (ℕ_set p.first at) (tiles_prop (at + p.len) ps n)
 
-apart_prop : (n : NameModel) (names : List NameModel) → IsProp (All (λ other. same_name n other ≡ false) names)
+apart_prop : (n : NameModel) (names : List NameModel) → IsProp (AllByRecursion (λ other. same_name n other ≡ false) names)
 apart_prop n [] = Unit-prop
 apart_prop n (other ∷ names) = ×_prop (Bool-set (same_name n other) false) (apart_prop n names)
 

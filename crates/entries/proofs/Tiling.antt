@@ -6,7 +6,7 @@ use Rattle.entry_format.specs.Grammars.{references}
 use Rattle.entry_reader.specs.declared.name.Name.{Name}
 use Rattle.entry_reader.specs.Reads.{name_of}
 use Rattle.entries.specs.declared.production.Production.{Production}
-use Rattle.entries.specs.Fields.{names_of, Keeps}
+use Rattle.entries.specs.Fields.{names_of}
 use Rattle.entries.specs.Loaded.{production_of, productions_of, Tiles, Adds}
 
 tiles_le : (at : ℕ) (ps : List Production) (n : ℕ) → Tiles at ps n → at ≤ n

@@ -1,5 +1,5 @@
 -- Vectors that are filled within their room. Assumes nothing.
-use Rattle.std.proofs.Common.{◌≡◌, ℕ, ◌+◌, ◌≤◌, List, [], ◌∷◌, ◌++◌, map, length, take, drop, vec_items, vec_len, vec_capacity, Vec, sym, refl, ap, ◌∙◌, arith}
+use Rattle.std.proofs.Common.{◌≡◌, ℕ, ◌+◌, ◌≤◌, [], ◌∷◌, ◌++◌, map, length, take, drop, vec_items, vec_len, vec_capacity, Vec, sym, refl, ap, ◌∙◌, arith}
 use Rattle.std.specs.declared.alloc.Global.{Global}
 use Rattle.std.proofs.lemmas.List.{nil_from_length, take_all, drop_all, take-append-le, drop-append-le, map_push}
 use Rattle.entry_reader.specs.declared.name.Name.{Name}

@@ -1,8 +1,8 @@
 -- The parts of a grammar, read one behind the other. Assumes nothing.
 use Rattle.std.proofs.Common.{◌≡◌, List, [], sym, refl}
 use Rattle.entry_format.proofs.Series.{and_then_is}
-use Rattle.entry_format.specs.Grammars.{ProductionModel, GrammarModel, loader_checks, read_kind, read_declarations, read_productions, read_grammar}
-use Rattle.entry_format.specs.Reading.{Input, Parsed, got, NameModel}
+use Rattle.entry_format.specs.Grammars.{ProductionModel, loader_checks, read_kind, read_declarations, read_productions, read_grammar}
+use Rattle.entry_format.specs.Reading.{Input, got, NameModel}
 
 pub grammar_read : (l₀ l₁ l₂ l₃ l₄ : Input) (ts ns : List NameModel) (ps : List ProductionModel) →
     got tt l₁ ≡ read_kind 1 l₀ →

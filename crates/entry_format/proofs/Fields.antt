@@ -1,6 +1,6 @@
 -- The fields of a file: bytes, counts, names, and a count with what it counts. Assumes nothing.
 use Rattle.std.proofs.Common.{◌≡◌, ℕ, ◌+◌, ◌*◌, ◌/◌, ◌%◌, ◌<◌, ◌≤◌, Bool, true, false, cond, leb, List, [], ◌∷◌, ◌++◌, length, sym, refl, ap, ◌∙◌, subst, arith}
-use Rattle.std.specs.List.{flat_map, AllByRecursion as All}
+use Rattle.std.specs.List.{flat_map, AllByRecursion}
 use Rattle.std.proofs.lemmas.Bool.{leb-true, le-leb}
 use Rattle.entry_format.specs.declared.fault.LoadFault.{LoadFault}
 use Rattle.entry_format.specs.Encoding.{encode_count, encode_name, WellFormed}
@@ -25,7 +25,7 @@ count_passes : (l m : Input) (high low : ℕ) → Begins l (high ∷ low ∷ [])
 count_passes l m high low h = record {
   moved = h.moved;
   front = λ bytes.
-      let small : low < 256 = (subst (All (λ b. b < 256)) h.front bytes).1.0 in
+      let small : low < 256 = (subst (AllByRecursion (λ b. b < 256)) h.front bytes).1.0 in
       let a : high ≡ (high * 256 + low) / 256 = omega arith in
       let b : low ≡ (high * 256 + low) % 256 = omega arith in
       h.front ∙ (λ i. a i ∷ b i ∷ m.rest);

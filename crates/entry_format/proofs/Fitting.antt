@@ -1,6 +1,6 @@
 -- What fits while it is read is what is lawful. Assumes nothing.
 use Rattle.std.proofs.Common.{◌≡◌, ℕ, ◌+◌, ◌≤◌, List, [], ◌∷◌, ◌++◌, length, Some, sym, subst, arith}
-use Rattle.std.specs.List.{flat_map, AllByRecursion as All}
+use Rattle.std.specs.List.{flat_map, AllByRecursion}
 use Rattle.std.proofs.lemmas.List.{append_assoc, append-nil, length-append}
 use Rattle.std.proofs.ByRecursion.{All-append, All-weaker}
 use Rattle.entry_format.specs.Encoding.{encode_name, encode_list, encode_production, WellFormed, production_names, NamesAt, ProductionsAt, Lawful}
@@ -13,13 +13,13 @@ use Rattle.entry_format.proofs.Positions.{is_from_position, position_from_is, di
 use Rattle.entry_format.proofs.Sections.{NewName, DeclarationFits, ProductionFits}
 
 -- names that fit are well-formed and at their places
-names_parts : (names done : List NameModel) (p : ℕ) → FitsAll encode_name NameFits done p names → NamesAt p names × All WellFormed names
+names_parts : (names done : List NameModel) (p : ℕ) → FitsAll encode_name NameFits done p names → NamesAt p names × AllByRecursion WellFormed names
 names_parts [] done p h = (tt, tt)
 names_parts (n ∷ names) done p h =
     let (at, formed) = names_parts names (done ++ n ∷ []) (p + length (encode_name n)) h.1 in
     ((h.0.0, at), (h.0.1, formed))
 
-names_fit : (names done : List NameModel) (p : ℕ) → NamesAt p names → All WellFormed names → FitsAll encode_name NameFits done p names
+names_fit : (names done : List NameModel) (p : ℕ) → NamesAt p names → AllByRecursion WellFormed names → FitsAll encode_name NameFits done p names
 names_fit [] done p at formed = tt
 names_fit (n ∷ names) done p at formed =
     ((at.0, formed.0), names_fit names (done ++ n ∷ []) (p + length (encode_name n)) at.1 formed.1)
@@ -42,13 +42,13 @@ module _ (earlier : List NameModel) where
   )
 
   declared_parts : (names : List NameModel) (p : ℕ) → FitsAll encode_name (DeclarationFits earlier) [] p names → Distinct earlier →
-      NamesAt p names × All WellFormed names × Distinct (earlier ++ names)
+      NamesAt p names × AllByRecursion WellFormed names × Distinct (earlier ++ names)
   declared_parts names p h d =
       let (fits, new) = fits_split encode_name NameFits (NewName earlier) names [] p h in
       let (at, formed) = names_parts names [] p fits in
       (at, formed, new_distinct names [] p new (subst Distinct (sym (append-nil earlier)) d))
 
-  declared_fit : (names : List NameModel) (p : ℕ) → NamesAt p names → All WellFormed names → Distinct (earlier ++ names) → FitsAll encode_name (DeclarationFits earlier) [] p names
+  declared_fit : (names : List NameModel) (p : ℕ) → NamesAt p names → AllByRecursion WellFormed names → Distinct (earlier ++ names) → FitsAll encode_name (DeclarationFits earlier) [] p names
   declared_fit names p at formed d =
       fits_both encode_name NameFits (NewName earlier) names [] p (names_fit names [] p at formed) (distinct_new names [] p d)
 
@@ -68,7 +68,7 @@ module _ (nonterminals : List NameModel) where
 
   -- productions that fit have their places, well-formed names and their nonterminals, and not too many references
   productions_parts : (ps done : List ProductionModel) (p : ℕ) → FitsAll encode_production (ProductionFits nonterminals) done p ps → length (references done) ≤ 1024 →
-      ProductionsAt p ps × All WellFormed (flat_map production_names ps) × All Numbered ps × (length (references (done ++ ps)) ≤ 1024)
+      ProductionsAt p ps × AllByRecursion WellFormed (flat_map production_names ps) × AllByRecursion Numbered ps × (length (references (done ++ ps)) ≤ 1024)
   productions_parts [] done p h few = (tt, tt, tt, subst (λ xs. length (references xs) ≤ 1024) (sym (append-nil done)) few)
   productions_parts (q ∷ ps) done p h few =
       let fits = h.0 in
@@ -81,7 +81,7 @@ module _ (nonterminals : List NameModel) where
         subst (λ xs. length (references xs) ≤ 1024) (append_assoc done (q ∷ []) ps) sum,
       )
 
-  productions_fit : (ps done : List ProductionModel) (p : ℕ) → ProductionsAt p ps → All WellFormed (flat_map production_names ps) → All Numbered ps →
+  productions_fit : (ps done : List ProductionModel) (p : ℕ) → ProductionsAt p ps → AllByRecursion WellFormed (flat_map production_names ps) → AllByRecursion Numbered ps →
       length (references (done ++ ps)) ≤ 1024 → FitsAll encode_production (ProductionFits nonterminals) done p ps
   productions_fit [] done p at formed numbered sum = tt
   productions_fit (q ∷ ps) done p at formed numbered sum = (
@@ -127,7 +127,7 @@ lawful_from_fitting g f =
 pub fitting_from_lawful : (g : GrammarModel) → Lawful g → Fitting g
 fitting_from_lawful g w =
     let rest = flat_map production_names g.productions in
-    let formed : All WellFormed (symbols g) = all_front WellFormed (symbols g) rest w.well_formed in
+    let formed : AllByRecursion WellFormed (symbols g) = all_front WellFormed (symbols g) rest w.well_formed in
     let apart : Distinct g.nonterminals = distinct_behind g.terminals g.nonterminals w.distinct in
     record {
       few_terminals = w.few_terminals;

@@ -1,5 +1,5 @@
 -- What the answer to every file means. Assumes nothing.
-use Rattle.std.proofs.Common.{◌≡◌, ℕ, List, ◌++◌, length, refl, ◌∙◌, arith}
+use Rattle.std.proofs.Common.{◌≡◌, ℕ, List, ◌++◌, length, refl, arith}
 use Rattle.entry_format.specs.Encoding.{encode_grammar, Lawful}
 use Rattle.entry_format.specs.Grammars.{GrammarModel, loader_checks, read_grammar}
 use Rattle.entry_format.specs.Laws.{Bytes, LoadingMeans}

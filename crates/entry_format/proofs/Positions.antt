@@ -1,6 +1,6 @@
 -- The position of a name among others. Assumes nothing.
 use Rattle.std.proofs.Common.{◌≡◌, ℕ, zero, suc, ◌+◌, ◌<◌, Bool, true, false, cond, List, [], ◌∷◌, ◌++◌, length, get_or, is_some, Some, None, Option, refl, ap, ◌∙◌, subst, arith}
-use Rattle.std.specs.List.{AllByRecursion as All}
+use Rattle.std.specs.List.{AllByRecursion}
 use Rattle.std.proofs.ByRecursion.{All-get_or, All-push}
 use Rattle.std.proofs.lemmas.Bool.{both_ways}
 use Rattle.entry_format.specs.Laws.{PositionIsUnique}
@@ -11,7 +11,7 @@ use Rattle.entry_format.proofs.Series.{all_front, all_behind}
 
 -- no name of the list equals n
 abbrev pub Fresh : List NameModel → NameModel → Type 0
-Fresh names n = All (λ x. same_name x n ≡ false) names
+Fresh names n = AllByRecursion (λ x. same_name x n ≡ false) names
 
 cond_none : (b : Bool) (i : ℕ) (o : Option ℕ) → is_some (cond b (Some i) o) ≡ false → (b ≡ false) × (is_some o ≡ false)
 cond_none true i o h = let z : ◌≡◌ {A = ℕ} 0 1 = cc in absurd (omega arith)

@@ -1,6 +1,6 @@
 -- One reading after another: over which bytes it goes, and that it reads back what is written. Assumes nothing.
 use Rattle.std.proofs.Common.{◌≡◌, ℕ, zero, suc, ◌+◌, ◌<◌, Bool, true, false, cond, List, [], ◌∷◌, ◌++◌, length, sym, refl, ap, ◌∙◌, subst, arith}
-use Rattle.std.specs.List.{flat_map, AllByRecursion as All}
+use Rattle.std.specs.List.{flat_map, AllByRecursion}
 use Rattle.std.proofs.lemmas.List.{append_assoc, append-nil, length-append}
 use Rattle.entry_format.specs.declared.fault.LoadFault.TheVariants.{Read}
 use Rattle.entry_format.specs.declared.fault.ReadFault.{ReadFault}
@@ -17,11 +17,11 @@ pub record Begins (l : Input) (bytes : List ℕ) (l' : Input) : Type 0 where
   pub moved : l'.place ≡ l.place + length bytes
   pub front : l.rest ≡ bytes ++ l'.rest
 
-pub all_front : {X : Type 0} (P : X → Type 0) (xs ys : List X) → All P (xs ++ ys) → All P xs
+pub all_front : {X : Type 0} (P : X → Type 0) (xs ys : List X) → AllByRecursion P (xs ++ ys) → AllByRecursion P xs
 all_front P [] ys h = tt
 all_front P (x ∷ xs) ys h = (h.0, all_front P xs ys h.1)
 
-pub all_behind : {X : Type 0} (P : X → Type 0) (xs ys : List X) → All P (xs ++ ys) → All P ys
+pub all_behind : {X : Type 0} (P : X → Type 0) (xs ys : List X) → AllByRecursion P (xs ++ ys) → AllByRecursion P ys
 all_behind P [] ys h = h
 all_behind P (x ∷ xs) ys h = all_behind P xs ys h.1
 
@@ -136,11 +136,11 @@ module _ {F V : Type 0} (read : List V → Input → Parsed F V) (enc : V → Li
 
 -- where what fits depends on the value alone
 module _ {V : Type 0} (enc : V → List ℕ) (P : V → Type 0) where
-  pub all_from_fits : (vs done : List V) (p : ℕ) → FitsAll enc (λ _ _ v. P v) done p vs → All P vs
+  pub all_from_fits : (vs done : List V) (p : ℕ) → FitsAll enc (λ _ _ v. P v) done p vs → AllByRecursion P vs
   all_from_fits [] done p h = tt
   all_from_fits (v ∷ vs) done p h = (h.0, all_from_fits vs (done ++ v ∷ []) (p + length (enc v)) h.1)
 
-  pub fits_from_all : (vs done : List V) (p : ℕ) → All P vs → FitsAll enc (λ _ _ v. P v) done p vs
+  pub fits_from_all : (vs done : List V) (p : ℕ) → AllByRecursion P vs → FitsAll enc (λ _ _ v. P v) done p vs
   fits_from_all [] done p h = tt
   fits_from_all (v ∷ vs) done p h = (h.0, fits_from_all vs (done ++ v ∷ []) (p + length (enc v)) h.1)
 

@@ -1,6 +1,6 @@
 -- Each loaded name is the part of the file at its place. Assumes nothing.
 use Rattle.std.proofs.Common.{◌≡◌, ℕ, ◌+◌, List, [], ◌∷◌, ◌++◌, length, take, drop, sym, refl, ap, ◌∙◌}
-use Rattle.std.specs.List.{flat_map, AllByRecursion as All}
+use Rattle.std.specs.List.{flat_map, AllByRecursion}
 use Rattle.std.proofs.lemmas.List.{append_assoc, append-nil, take_at, drop_at, drop-drop}
 use Rattle.std.proofs.ByRecursion.{All-append}
 use Rattle.entry_format.specs.Encoding.{encode_count, encode_name, encode_names, encode_list, encode_production, encode_productions, production_names, NamesAt, ProductionsAt}
@@ -27,19 +27,19 @@ module _ (file : List ℕ) where
       ∙ ap (take (length (encode_name n))) (h ∙ append_assoc (encode_name n) b more)
       ∙ take_at (encode_name n) (b ++ more) (length (encode_name n)) refl
 
-  names_stand_at : (names : List NameModel) (p : ℕ) (more : List ℕ) → NamesAt p names → At p (encode_names names) more → All (StandsIn file) names
+  names_stand_at : (names : List NameModel) (p : ℕ) (more : List ℕ) → NamesAt p names → At p (encode_names names) more → AllByRecursion (StandsIn file) names
   names_stand_at [] p more at h = tt
   names_stand_at (n ∷ names) p more at h = (
     stands p n (encode_names names) more at.0 h,
     names_stand_at names (p + length (encode_name n)) more at.1 (next p (encode_name n) (encode_names names) more h),
   )
 
-  list_stands : (names : List NameModel) (p : ℕ) (more : List ℕ) → NamesAt (p + 2) names → At p (encode_list names) more → All (StandsIn file) names
+  list_stands : (names : List NameModel) (p : ℕ) (more : List ℕ) → NamesAt (p + 2) names → At p (encode_list names) more → AllByRecursion (StandsIn file) names
   list_stands names p more at h =
       names_stand_at names (p + 2) more at (next p (encode_count (length names)) (encode_names names) more h)
 
   productions_stand : (ps : List ProductionModel) (p : ℕ) (more : List ℕ) → ProductionsAt p ps → At p (flat_map encode_production ps) more →
-      All (StandsIn file) (flat_map production_names ps)
+      AllByRecursion (StandsIn file) (flat_map production_names ps)
   productions_stand [] p more at h = tt
   productions_stand (q ∷ ps) p more at h =
       let rest = flat_map encode_production ps in

@@ -1,6 +1,6 @@
 -- Writing a grammar's entry file, and which grammars are lawful. Assumes nothing.
 use Rattle.std.specs.Prelude.{◌≡◌, ℕ, ◌+◌, ◌/◌, ◌%◌, ◌≤◌, true, List, [], ◌∷◌, ◌++◌, length}
-use Rattle.std.specs.List.{flat_map, AllByRecursion as All}
+use Rattle.std.specs.List.{flat_map, AllByRecursion}
 use Rattle.entry_format.specs.Grammars.{ProductionModel, GrammarModel, symbols, references}
 use Rattle.entry_format.specs.Names.{Distinct, IsAt}
 use Rattle.entry_format.specs.Reading.{NameModel, printable}
@@ -29,7 +29,7 @@ encode_grammar g = 1 ∷ encode_list g.terminals ++ (encode_list g.nonterminals 
 
 -- a name has 1 to 32 bytes, each from hexadecimal 21 to 7E
 abbrev pub WellFormed : NameModel → Type 0
-WellFormed n = (1 ≤ length n.text) × (length n.text ≤ 32) × All (λ b. printable b ≡ true) n.text
+WellFormed n = (1 ≤ length n.text) × (length n.text ≤ 32) × AllByRecursion (λ b. printable b ≡ true) n.text
 
 -- all names of a production, in file order
 abbrev pub production_names : ProductionModel → List NameModel
@@ -66,9 +66,9 @@ pub record Lawful (g : GrammarModel) : Type 0 where
   pub few_productions : length g.productions ≤ 256
   pub few_references : length (references g.productions) ≤ 1024
   -- every name is well-formed
-  pub well_formed : All WellFormed (all_names g)
+  pub well_formed : AllByRecursion WellFormed (all_names g)
   -- no two symbols have equal names
   pub distinct : Distinct (symbols g)
   -- every left name equals that of the production's nonterminal
-  pub left_sides : All (λ p. IsAt g.nonterminals p.left p.nonterminal) g.productions
+  pub left_sides : AllByRecursion (λ p. IsAt g.nonterminals p.left p.nonterminal) g.productions
   pub located : Located g

@@ -4,9 +4,7 @@ use Rattle.entry_format.specs.declared.fault.Layer.{Layer}
 use Rattle.entry_format.specs.declared.fault.Layer.TheVariants as layer
 use Rattle.entry_format.specs.declared.fault.LoadFault.{LoadFault}
 use Rattle.entry_format.specs.declared.fault.LoadFault.TheVariants.{Read, Names, WrongKind, OverLimit, TrailingBytes}
-use Rattle.entry_format.specs.declared.fault.NameFault.{NameFault}
 use Rattle.entry_format.specs.declared.fault.NameFault.TheVariants.{Duplicate, NotNonterminal}
-use Rattle.entry_format.specs.declared.fault.ReadFault.{ReadFault}
 use Rattle.entry_format.specs.declared.fault.ReadFault.TheVariants.{EndOfFile, BadName}
 
 -- the word for a layer

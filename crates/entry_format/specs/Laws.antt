@@ -1,6 +1,6 @@
 -- What loading a file means, in terms of encodings, places and bytes. Assumes nothing.
-use Rattle.std.specs.Prelude.{◌≡◌, ℕ, ◌+◌, ◌<◌, ◌≤◌, true, false, ◌⊎◌, ◌↔◌, List, [], ◌∷◌, length, take, drop, Some, None, Ok, Err, Result, ◌≢◌, slice_index}
-use Rattle.std.specs.List.{AllByRecursion as All}
+use Rattle.std.specs.Prelude.{◌≡◌, ℕ, ◌+◌, ◌<◌, ◌≤◌, true, false, ◌⊎◌, ◌↔◌, List, length, take, drop, Some, None, Ok, Err, Result, ◌≢◌, slice_index}
+use Rattle.std.specs.List.{AllByRecursion}
 use Rattle.entry_format.specs.declared.fault.LoadFault.{LoadFault}
 use Rattle.entry_format.specs.declared.fault.LoadFault.TheVariants.{Read, Names, WrongKind, OverLimit, TrailingBytes}
 use Rattle.entry_format.specs.declared.fault.ReadFault.TheVariants.{EndOfFile, BadName}
@@ -12,7 +12,7 @@ use Rattle.entry_format.specs.Reading.{NameModel, name_length, printable}
 
 -- a list of bytes
 abbrev pub Bytes : List ℕ → Type 0
-Bytes file = All (λ b. b < 256) file
+Bytes file = AllByRecursion (λ b. b < 256) file
 
 -- a file loads as g exactly when it is the encoding of g and g is lawful
 abbrev pub LoadsExactlyEncodings : Type 0
@@ -28,7 +28,7 @@ StandsIn file n = take (length (encode_name n)) (drop n.at file) ≡ encode_name
 abbrev pub NamesStandInFile : Type 0
 NamesStandInFile =
     (file : List ℕ) (g : GrammarModel) → Bytes file → load_grammar loader_checks file ≡ Ok g →
-    All (StandsIn file) (all_names g)
+    AllByRecursion (StandsIn file) (all_names g)
 
 -- the byte at q is a length that a name may have, and p lies within that many bytes behind it
 abbrev pub InName : List ℕ → ℕ → ℕ → Type 0
@@ -80,7 +80,7 @@ pub record LoadMeaning (file : List ℕ) (x : Result GrammarModel LoadFault) : T
   -- the answer is g exactly when the file is the encoding of g and g is lawful
   pub exact : (g : GrammarModel) → (x ≡ Ok g) ↔ ((file ≡ encode_grammar g) × Lawful g)
   -- each name of the grammar is the part of the file at its place
-  pub names : (g : GrammarModel) → x ≡ Ok g → All (StandsIn file) (all_names g)
+  pub names : (g : GrammarModel) → x ≡ Ok g → AllByRecursion (StandsIn file) (all_names g)
   -- the fault says what is so of the file
   pub tells : (e : LoadFault) → x ≡ Err e → Tells file e
   -- another file that begins with the bytes that show the fault is refused with the same fault

@@ -1,6 +1,6 @@
 -- When two names are equal, and where a name stands in a list of names. Assumes nothing.
 use Rattle.std.specs.Prelude.{◌≡◌, ℕ, ◌+◌, ◌<◌, ◌≤◌, Bool, true, false, cond, ◌⊎◌, List, [], ◌∷◌, length, take, Some, None, Decides, Option, slice_index_or}
-use Rattle.std.specs.List.{AllByRecursion as All}
+use Rattle.std.specs.List.{AllByRecursion}
 use Rattle.std.specs.Str.{bytes_eq}
 use Rattle.entry_format.specs.Reading.{NameModel}
 
@@ -39,7 +39,7 @@ position names n = position_from 0 names n
 -- no name of the list equals a later one
 abbrev pub Distinct : List NameModel → Type 0
 Distinct [] = Unit {0}
-Distinct (n ∷ names) = All (λ other. same_name n other ≡ false) names × Distinct names
+Distinct (n ∷ names) = AllByRecursion (λ other. same_name n other ≡ false) names × Distinct names
 
 -- the name at k equals n
 abbrev pub IsAt : List NameModel → NameModel → ℕ → Type 0

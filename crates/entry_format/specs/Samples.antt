@@ -1,6 +1,6 @@
 -- A small grammar, as a file and as what is loaded from it. Assumes nothing.
 use Rattle.std.specs.Prelude.{ℕ, List, [], ◌∷◌}
-use Rattle.entry_format.specs.Grammars.{ProductionModel, GrammarModel}
+use Rattle.entry_format.specs.Grammars.{GrammarModel}
 use Rattle.entry_format.specs.Reading.{NameModel}
 
 abbrev pub sample_file : List ℕ

@@ -1,11 +1,11 @@
 -- The front of a file that has been read, and the bytes of a name. Assumes nothing.
 use Rattle.std.proofs.Common.{◌≡◌, ℕ, zero, suc, ◌+◌, ◌<◌, Bool, true, false, cond, List, [], ◌∷◌, ◌++◌, length, take, drop, IsUtf8, sym, refl, ap, subst, add-one, arith}
 use Rattle.std.proofs.lemmas.Bool.Decides.{nat_tests}
-use Rattle.std.specs.List.{AllByRecursion as All}
+use Rattle.std.specs.List.{AllByRecursion}
 use Rattle.std.proofs.ByRecursion.{IsAscii-from_all, All-push, All-weaker}
 use Rattle.std.proofs.lemmas.Str.{IsUtf8-from_ascii}
 use Rattle.entry_format.specs.declared.fault.ReadFault.{ReadFault}
-use Rattle.entry_format.specs.declared.fault.ReadFault.TheVariants.{EndOfFile, BadName}
+use Rattle.entry_format.specs.declared.fault.ReadFault.TheVariants.{BadName}
 use Rattle.entry_format.specs.Reading.{Input, Parsed, got, bad, and_then, byte_of, printable, read_name_bytes, read_name_byte, read_byte, input}
 
 -- a byte that was read, and the bytes behind it
@@ -43,16 +43,16 @@ abbrev Letter : ℕ → Type 0
 Letter b = printable b ≡ true
 
 -- the bytes of a name are printable
-letters : (n : ℕ) (done rest : List ℕ) (p : ℕ) (text : List ℕ) (after : Input) → read_name_bytes n done (input rest p) ≡ got text after → All Letter done → All Letter text
-letters zero done rest p text after r h = let e : done ≡ text = cc in subst (All Letter) e h
+letters : (n : ℕ) (done rest : List ℕ) (p : ℕ) (text : List ℕ) (after : Input) → read_name_bytes n done (input rest p) ≡ got text after → AllByRecursion Letter done → AllByRecursion Letter text
+letters zero done rest p text after r h = let e : done ≡ text = cc in subst (AllByRecursion Letter) e h
 letters (suc n) done [] p text after r h = absurd (let z : ◌≡◌ {A = ℕ} 0 1 = cc in omega arith)
 letters (suc n) done (b ∷ bs) p text after r h = letter (letters n (done ++ b ∷ []) bs (p + 1) text after) (printable b) refl r
   where
     letter :
-        (read_name_bytes n (done ++ b ∷ []) (input bs (p + 1)) ≡ got text after → All Letter (done ++ b ∷ []) → All Letter text) →
+        (read_name_bytes n (done ++ b ∷ []) (input bs (p + 1)) ≡ got text after → AllByRecursion Letter (done ++ b ∷ []) → AllByRecursion Letter text) →
         (t : Bool) → printable b ≡ t →
         and_then (cond t (got b (input bs (p + 1))) (bad (BadName p))) (λ v l. read_name_bytes n (done ++ v ∷ []) l) ≡ got text after →
-        All Letter text
+        AllByRecursion Letter text
     letter more true e s = more s (All-push Letter done b h e)
     letter more false e s = absurd (let z : ◌≡◌ {A = ℕ} 0 1 = cc in omega arith)
 

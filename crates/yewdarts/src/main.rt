@@ -8,11 +8,8 @@ use entry_format::fault::LoadFault;
 use report::command::{Command, Format, USAGE, parse};
 use report::lines::{entry_row, refusal_line, refusal_row};
 use report::reports::text_report;
+use std::process::ExitCode;
 use std::{env, fs, io};
-
-// Some file was refused or could not be read, the arguments were wrong, or the run ended with an error.
-#[derive(Drop)]
-struct Failure;
 
 fn print_grammar(
     rt: &HostRuntime,
@@ -92,9 +89,14 @@ fn run(rt: &HostRuntime) -> io::Result<bool> {
     }
 }
 
-fn main(rt: HostRuntime) -> Result<(), Failure> {
+// Ends with status 1 if some file was refused or could not be read, the arguments were wrong, or the run ended with an error.
+fn main(rt: HostRuntime) -> ExitCode {
     match run(&rt) {
-        Ok(true) => Ok(()),
-        _ => Err(Failure),
+        Ok(true) => ExitCode::SUCCESS,
+        Ok(false) => ExitCode::FAILURE,
+        Err(error) => {
+            let _ = eprintln!(rt; "{error}");
+            ExitCode::FAILURE
+        }
     }
 }

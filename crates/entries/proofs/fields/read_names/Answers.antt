@@ -1,9 +1,9 @@
-use Rattle.std.proofs.Common.{◌≡◌, ◌+◌, ◌-◌, vec_items, vec_len, sym, refl, ap, ◌∙◌, arith}
+use Rattle.std.proofs.Common.{◌≡◌, ◌+◌, ◌-◌, vec_len, sym, ap, ◌∙◌, arith}
 use Rattle.std.proofs.lemmas.Result.{err_from_is_err_and}
 use Rattle.entry_format.proofs.Loops.{series_more, series_bad}
 use Rattle.entry_format.specs.Reading.{read_name, series}
 use Rattle.entry_reader.specs.Reads.{input_of}
-use Rattle.entries.specs.Fields.{names_from, Keeps}
+use Rattle.entries.specs.Fields.{names_from}
 use Rattle.entries.proofs.Vectors.{keeps_none, names_none, names_more, keeps_more}
 use Rattle.entries.proofs.fields.read_names.Goals as goal
 

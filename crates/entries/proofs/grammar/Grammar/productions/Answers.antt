@@ -1,4 +1,4 @@
-use Rattle.std.proofs.Common.{map, vec_items, vec_len, sym, ap, ◌∙◌, subst}
+use Rattle.std.proofs.Common.{map, vec_items, vec_len, sym, ap, subst}
 use Rattle.entries.specs.Loaded.{production_of, Tiles}
 use Rattle.entries.proofs.Invariant.{tiles}
 use Rattle.entries.proofs.Tiling.{references_count}

@@ -6,5 +6,5 @@ use Rattle.entries.proofs.grammar.load.load_grammar.Goals as goal
 
 pub returns : goal.returns
 returns c =
-    let bytes = All-from_get_or (λ b. b < 256) c.args.file.now 0 (λ i _. (c.type-inv.file i).fits) in
+    let bytes = All-from_get_or (λ b. b < 256) c.args.file.now 0 (λ i _. (c.type_inv.file i).fits) in
     record { value = c.read_grammar.ensures; meaning = subst (LoadMeaning c.args.file.now) (sym c.read_grammar.ensures) (loading_means c.args.file.now bytes) }

@@ -14,4 +14,4 @@ invariant_of-result c =
     (c.in_ok-read_productions.ensures.read ∙ ap (λ xs. read_productions loader_checks (map name_of xs) (input_of c.read_declarations-2.new.reader)) c.as_slice-2.ensures.value) in
     let m = ap (read_grammar loader_checks) (sym c.new-reader.ensures) ∙ r in
     let law = grammar_lawful c.args.file.now _ _ m in
-    (∣ record { lawful = law; tiles = c.in_ok-read_productions.ensures.tiles } ∣₁, tt)
+    record { loaded = ∣ record { lawful = law; tiles = c.in_ok-read_productions.ensures.tiles } ∣₁ }

@@ -1,10 +1,10 @@
-use Rattle.std.proofs.Common.{◌≡◌, ◌+◌, ◌-◌, [], map, vec_items, vec_len, sym, refl, ap, ◌∙◌, arith, rules}
+use Rattle.std.proofs.Common.{◌≡◌, ◌+◌, ◌-◌, [], map, vec_items, sym, refl, ap, ◌∙◌, arith, rules}
 use Rattle.std.proofs.lemmas.Result.{err_from_is_err_and}
 use Rattle.entry_format.proofs.Loops.{series_more, series_bad}
 use Rattle.entry_format.specs.Grammars.{loader_checks, read_production, read_production_after}
 use Rattle.entry_format.specs.Reading.{series}
 use Rattle.entry_reader.specs.Reads.{input_of, name_of}
-use Rattle.entries.specs.Loaded.{production_of, productions_of, Tiles}
+use Rattle.entries.specs.Loaded.{production_of, productions_of}
 use Rattle.entries.proofs.Tiling.{references_count, tiles_more, productions_more}
 use Rattle.entries.proofs.Vectors.{no_items}
 use Rattle.entries.proofs.grammar.load.read_productions.Goals as goal

@@ -1,4 +1,4 @@
-use Rattle.std.proofs.Common.{◌≡◌, ℕ, Some, None, sym, refl, ap, ◌∙◌, arith}
+use Rattle.std.proofs.Common.{sym, refl, ap, ◌∙◌}
 use Rattle.entry_format.proofs.Positions.{position_unique}
 use Rattle.entry_format.specs.Grammars.{GrammarModel, symbols}
 use Rattle.entry_format.specs.Names.{Distinct}

@@ -1,4 +1,4 @@
-use Rattle.std.proofs.Common.{◌≡◌, ◌-◌, take, IsUtf8, sym, ap, subst, arith}
+use Rattle.std.proofs.Common.{◌≡◌, ◌-◌, take, IsUtf8, ap, subst, arith}
 use Rattle.entry_reader.specs.Reads.{input_of}
 use Rattle.entry_reader.proofs.Fronts.{name_utf8}
 use Rattle.entry_reader.proofs.reader.Reader.name_text.Goals as goal

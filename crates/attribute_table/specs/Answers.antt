@@ -17,9 +17,9 @@ abbrev pub open_answer : {V : Type 0} → Result OpenSession TableFault → call
 open_answer (Ok session) = opened
 open_answer (Err f) = refused f
 
--- The session that an open gives is at i.
+-- The session that an open gives is at i, an instance that a system can have: so it may not be dropped.
 abbrev pub OpensAt : ℕ → Result OpenSession TableFault → Type 0
-OpensAt i (Ok session) = session.instance ≡ i
+OpensAt i (Ok session) = (session.instance ≡ i) × (session.instance < 4096)
 OpensAt i (Err f) = Unit
 
 -- How many rows a round changed: none if the session is settled.

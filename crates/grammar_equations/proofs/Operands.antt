@@ -1,6 +1,6 @@
 -- The operands of a valid instance are valid, and few. Assumes nothing.
 use Rattle.std.proofs.Common.{◌≡◌, ℕ, zero, suc, ◌+◌, ◌-◌, ◌<◌, ◌≤◌, Bool, true, cond, eqb, ltb, List, [], ◌∷◌, map, length, take, Some, None, Ok, Err, Option, sym, refl, ap, subst, arith}
-use Rattle.std.specs.List.{AllByRecursion as All, slice_get}
+use Rattle.std.specs.List.{AllByRecursion, slice_get}
 use Rattle.std.proofs.ByRecursion.{All-append, All-map, All-weaker}
 use Rattle.std.proofs.lemmas.List.{length-append, length-map, take_all}
 use Rattle.std.proofs.lemmas.Bool.{cond_both}
@@ -12,18 +12,18 @@ use Rattle.grammar_equations.proofs.Lists.{nth_within}
 use Rattle.grammar_equations.proofs.Numbering.{rule_at}
 
 -- What holds of each operand of a list holds of one in it.
-pub all_in : (P : InstanceOperand → Type 0) (o : InstanceOperand) (os : List InstanceOperand) → All P os → In o os → P o
+pub all_in : (P : InstanceOperand → Type 0) (o : InstanceOperand) (os : List InstanceOperand) → AllByRecursion P os → In o os → P o
 all_in P o [] h i = elim i [ ]
 all_in P o (p ∷ os) h head = h.0
 all_in P o (p ∷ os) h (tail i) = all_in P o os h.1 i
 
 -- The numbers listed in ascending order are below the bound and pass the test, and are no more than the bound.
-pub ascending_passes : (test : ℕ → Bool) (n : ℕ) → All (λ k. (k < n) × (test k ≡ true)) (ascending test n)
+pub ascending_passes : (test : ℕ → Bool) (n : ℕ) → AllByRecursion (λ k. (k < n) × (test k ≡ true)) (ascending test n)
 ascending_passes test zero = tt
 ascending_passes test (suc n) =
     All-append (λ k. (k < suc n) × (test k ≡ true)) (ascending test n) (cond (test n) (n ∷ []) [])
     (All-weaker (λ k. (k < n) × (test k ≡ true)) (λ k. (k < suc n) × (test k ≡ true)) (λ k h. (omega (arith, h.0), h.1)) (ascending test n) (ascending_passes test n))
-    (cond_both (test n) (n ∷ []) [] (All (λ k. (k < suc n) × (test k ≡ true))) (λ t. ((omega arith, t), tt)) (λ f. tt))
+    (cond_both (test n) (n ∷ []) [] (AllByRecursion (λ k. (k < suc n) × (test k ≡ true))) (λ t. ((omega arith, t), tt)) (λ f. tt))
 
 pub ascending_length : (test : ℕ → Bool) (n : ℕ) → length (ascending test n) ≤ n
 ascending_length test zero = omega arith
@@ -44,17 +44,17 @@ module _ (g : Rules) where
   ValidOperand (Err d) = Unit {0}
 
   abbrev pub ValidOperands : List InstanceOperand → Type 0
-  ValidOperands = All ValidOperand
+  ValidOperands = AllByRecursion ValidOperand
 
   -- The occurrences of a nonterminal are valid.
-  occurrences_in_valid : (a p : ℕ) → p < rule_count g → All (Valid g) (occurrences_in g a p)
+  occurrences_in_valid : (a p : ℕ) → p < rule_count g → AllByRecursion (Valid g) (occurrences_in g a p)
   occurrences_in_valid a p l =
       let test : ℕ → Bool = λ k. is_nonterminal g a (slice_get (right_of g p) k) in
       let n : ℕ = length (right_of g p) in
       All-map (Valid g) (occurrence p) (ascending test n)
       (All-weaker (λ k. (k < n) × (test k ≡ true)) (λ k. Valid g (occurrence p k)) (λ k h. (l, h.0)) (ascending test n) (ascending_passes test n))
 
-  occurrences_below_valid : (a p : ℕ) → p ≤ rule_count g → All (Valid g) (occurrences_below g a p)
+  occurrences_below_valid : (a p : ℕ) → p ≤ rule_count g → AllByRecursion (Valid g) (occurrences_below g a p)
   occurrences_below_valid a zero l = tt
   occurrences_below_valid a (suc p) l =
       All-append (Valid g) (occurrences_below g a p) (occurrences_in g a p) (occurrences_below_valid a p (omega arith)) (occurrences_in_valid a p l)

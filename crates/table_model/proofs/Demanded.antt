@@ -1,6 +1,6 @@
 -- What a log of demands alone answers: a demand's outcome depends on its instance alone. Assumes nothing.
 use Rattle.std.proofs.Common.{◌≡◌, ℕ, ◌<◌, ◌≤◌, Bool, ◌⊎◌, List, ◌∷◌, sym, refl, ap, ◌∙◌, subst, ⊎_elim, arith}
-use Rattle.std.specs.List.{AllByRecursion as All}
+use Rattle.std.specs.List.{AllByRecursion}
 use Rattle.std.proofs.ByRecursion.{All-weaker}
 use Rattle.lattices.specs.Laws.{LatticeLaws}
 use Rattle.equations.specs.Equations.{Equations, Lawful}
@@ -22,13 +22,13 @@ use Rattle.table_model.proofs.Invariant.{holds}
 abbrev pub Demanded : {V : Type 0} → Log V → ℕ → Type 0
 Demanded {V} log i = (a : Answer V) × In (event (demand_at i) a) log
 
-pub all_demanded : {V : Type 0} {log : Log V} {is : List ℕ} → Demands log is → All (Demanded log) is
+pub all_demanded : {V : Type 0} {log : Log V} {is : List ℕ} → Demands log is → AllByRecursion (Demanded log) is
 all_demanded no_demand = tt
 all_demanded (demand {i = i} {a = a} {log = log} {is = is} d) =
     ((a, newest), All-weaker (Demanded log) (Demanded (event (demand_at i) a ∷ log)) (λ j p. (p.0, older p.1)) is (all_demanded d))
 
 -- What holds of all demanded instances holds of one.
-pub demanded_all : {V : Type 0} (P : ℕ → Type 0) {log : Log V} {is : List ℕ} {i : ℕ} → Demands log is → All P is → Demanded log i → P i
+pub demanded_all : {V : Type 0} (P : ℕ → Type 0) {log : Log V} {is : List ℕ} {i : ℕ} → Demands log is → AllByRecursion P is → Demanded log i → P i
 demanded_all P no_demand ps p = absurd (in_none p.1)
 demanded_all P {i = i} (demand {i = j} d) ps p =
     ⊎_elim

@@ -37,10 +37,11 @@ pub returns-in_ok-reach-in-Idle : goal.returns-in_ok-reach-in-Idle
 returns-in_ok-reach-in-Idle g c =
     let r = c.index-rows-instance.result in
     let read = get_or_read c.args.rows.now c.args.instance r (omega arith) c.index-rows-instance.is in
+    let most = (g.S.System.lawful c.args.system.now).size_within in
     record {
       call = open_of_whole (omega arith, omega arith) (omega arith) r (read _) c.in-Idle.is c.in_default.not-Final (c.reach.ensures.tells (omega arith) (omega arith)) _ c.in_ok-reach-in-Idle.was
           c.reach.new.work (c.reach.ensures.marks (omega arith) (omega arith)) (each_of c.size-size.ensures.size c.open_rows.ensures);
-      session = refl;
+      session = (refl, omega (arith, most, c.size-size.ensures.size));
       work = c.reach.ensures.length;
     }
 

@@ -5,7 +5,7 @@ ghost use Rattle.lattices.specs.Pairs.{pair, pair_le, pair_lub, pair_same, pair_
 use crate::{Lattice, TOLD_HEIGHT_LIMIT};
 
 // Two values, ordered in both halves at once.
-#[derive(Clone, Copy)]
+#[derive(Clone, Copy, Debug, PartialEq, Eq)]
 pub struct Pair<A, B> {
     pub first: A,
     pub second: B,

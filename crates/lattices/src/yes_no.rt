@@ -4,7 +4,7 @@ ghost use Rattle.lattices.specs.YesNos.{answer_no, yes_le, yes_lub, yes_same, ye
 use crate::Lattice;
 
 // No or yes; no is below yes.
-#[derive(Clone, Copy, Debug, PartialEq, Eq)]
+#[derive(Clone, Copy, Debug, PartialEq, Eq, PartialOrd, Ord)]
 pub struct YesNo {
     pub yes: bool,
 }
@@ -35,11 +35,11 @@ impl Lattice for YesNo {
     }
 
     fn equal(self, other: YesNo) -> bool {
-        self.yes == other.yes
+        self == other
     }
 
     fn below(self, other: YesNo) -> bool {
-        !self.yes | other.yes
+        self <= other
     }
 
     fn told_height() -> u32 {

@@ -28,7 +28,7 @@ impl Lattice for NumberSet {
     }
 
     fn equal(self, other: NumberSet) -> bool {
-        self.bits == other.bits
+        self == other
     }
 
     fn below(self, other: NumberSet) -> bool {

@@ -1,11 +1,12 @@
 -- What the value of an instance says, by the values of its operands. Assumes nothing.
 use Rattle.std.proofs.Common.{◌≡◌, ℕ, suc, ◌^◌, ◌<◌, Bool, true, false, cond, ◌||◌, eqb, ltb, ◌⊎◌, ◌↔◌, List, [], ◌∷◌, Some, None, Ok, Err, sym, refl, ap, ◌∙◌, inl, inr, ⊎_elim, arith}
-use Rattle.lattices.specs.Bits.{bit, bit_pow_same, bit_pow_other}
+use Rattle.lattices.specs.Bits.{bit}
 use Rattle.lattices.specs.Pairs.{pair}
 use Rattle.lattices.specs.YesNos.{answer_no}
 use Rattle.lattices.specs.Sets.{Has, empty_set, set_union, has_union, has_empty}
 use Rattle.lattices.specs.declared.number_set.NumberSet.{NumberSet}
 use Rattle.std.specs.List.{slice_get}
+use Rattle.std.proofs.lemmas.Nat.Bits.{bit_at-pow_same, bit_at-pow_other}
 use Rattle.std.proofs.lemmas.Bool.{cases_eq, lt-ltb, ltb-true, eqb-true, both_ways, false≢true, or_cases, or_left, or_right}
 use Rattle.grammar_equations.specs.GrammarEquations.{InstanceOperand, operands, suffix_operands, start_of, step_sort, evaluated_from, evaluated}
 use Rattle.grammar_equations.specs.Instances.{Instance, symbol, suffix, occurrence, follow}
@@ -19,11 +20,11 @@ has_single s c = go (ltb s 64)
   where
     go : (b : Bool) → eqb (bit (cond b (2 ^ s) 0) c) 1 ≡ true → c ≡ s
     go true e =
-        ⊎_elim (λ q. q) (λ n. absurd (false≢true (sym (ap (λ d. eqb d 1) (bit_pow_other s c n)) ∙ e))) (cases_eq c s)
+        ⊎_elim (λ q. q) (λ n. absurd (false≢true (sym (ap (λ d. eqb d 1) (bit_at-pow_other s c n)) ∙ e))) (cases_eq c s)
     go false e = absurd (both_ways (Has empty_set c) (has_empty c) e)
 
 pub single_has : (s : ℕ) → s < 64 → Has (single s) s ≡ true
-single_has s l = ap (λ b. eqb (bit (cond b (2 ^ s) 0) s) 1) (lt-ltb s 64 l) ∙ ap (λ d. eqb d 1) (bit_pow_same s)
+single_has s l = ap (λ b. eqb (bit (cond b (2 ^ s) 0) s) 1) (lt-ltb s 64 l) ∙ ap (λ d. eqb d 1) (bit_at-pow_same s)
 
 pub empty_has : {A : Type 0} (c : ℕ) → Has empty_set c ≡ true → A
 empty_has c e = absurd (both_ways (Has empty_set c) (has_empty c) e)

@@ -1,3 +1,2 @@
 mod Joins
 mod Members
-mod Trailing

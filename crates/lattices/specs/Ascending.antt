@@ -1,6 +1,7 @@
 -- The members of a set, in ascending order. Assumes nothing.
 use Rattle.std.specs.Prelude.{◌≡◌, ℕ, ◌+◌, ◌<◌, ◌≤◌, Bool, true, false, ◌&&◌, ◌||◌, Some, None, Option, MatchOption, ◌==◌, ◌≢◌, nat_lt, refl}
 use Rattle.std.proofs.Common.{sym, ap, ◌∙◌, ⊎_elim, arith}
+use Rattle.std.proofs.Math.Bool.{and-true, and-false, or-false}
 use Rattle.std.proofs.lemmas.Bool.{cases_lt, cases_eq, lt-ltb, le-ltb, eq-eqb, ne_eqb, or_right, and_from}
 use Rattle.lattices.specs.Sets.{Has, LeastFrom}
 use Rattle.lattices.specs.declared.number_set.numbers.Numbers.{Numbers}
@@ -15,18 +16,6 @@ pub record Ascends (s : Numbers) (r : Option ℕ) (t : Numbers) : Type 0 where
 abbrev pub IsGiven : Numbers → ℕ → Bool
 IsGiven s n = Has s.set n && nat_lt n s.from
 
-and_true : (b : Bool) → (b && true) ≡ b
-and_true true = refl
-and_true false = refl
-
-and_false : (b : Bool) → (b && false) ≡ false
-and_false true = refl
-and_false false = refl
-
-or_false : (b : Bool) → (b || false) ≡ b
-or_false true = refl
-or_false false = refl
-
 -- The members up to k, the least member from `from` on, are those before `from` and k.
 module _ (has : ℕ → Bool) (from k n : ℕ) (at : from ≤ k) (is_member : has k ≡ true) (none : (m : ℕ) → from ≤ m → m < k → has m ≡ false) where
   abbrev OneMore : Type 0
@@ -39,14 +28,14 @@ module _ (has : ℕ → Bool) (from k n : ℕ) (at : from ≤ k) (is_member : ha
 
   before : (n ≢ k) → n < from → OneMore
   before ne less =
-      rw (ne_eqb n k ne, lt-ltb n from less, lt-ltb n (k + 1) (omega arith)) (sym (or_false (has n && true)))
+      rw (ne_eqb n k ne, lt-ltb n from less, lt-ltb n (k + 1) (omega arith)) (sym (or-false (has n && true)))
 
   between : (n ≢ k) → from ≤ n → n < k → OneMore
   between ne past less = rw (ne_eqb n k ne, none n past less) refl
 
   after : (n ≢ k) → from ≤ n → k ≤ n → OneMore
   after ne past more =
-      rw (ne_eqb n k ne, le-ltb n from past, le-ltb n (k + 1) (omega arith)) (sym (or_false (has n && false)))
+      rw (ne_eqb n k ne, le-ltb n from past, le-ltb n (k + 1) (omega arith)) (sym (or-false (has n && false)))
 
   one_more : OneMore
   one_more =
@@ -63,6 +52,6 @@ given_more s t k step n =
 -- At the end every member has been given.
 pub given_all : (s t : Numbers) → Ascends s None t → (n : ℕ) → IsGiven s n ≡ Has s.set n
 given_all s t step n =
-    ⊎_elim (λ less. rw (lt-ltb n s.from less) (and_true (Has s.set n)))
-    (λ past. rw (le-ltb n s.from past) (and_false (Has s.set n) ∙ sym (step.least n past)))
+    ⊎_elim (λ less. rw (lt-ltb n s.from less) (and-true (Has s.set n)))
+    (λ past. rw (le-ltb n s.from past) (and-false (Has s.set n) ∙ sym (step.least n past)))
     (cases_lt n s.from)

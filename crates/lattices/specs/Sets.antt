@@ -6,8 +6,10 @@ use Rattle.std.proofs.Math.Bridge.{le_prop}
 use Rattle.std.specs.Int.Bits.{bit_or}
 use Rattle.std.proofs.lemmas.Nat.{or_lt, ones-le}
 use Rattle.std.specs.Int.Count.{ones}
-use Rattle.std.proofs.lemmas.Bool.{both_ways, eqb-true, eq-eqb, ne_eqb, cases_eq, cases_lt, or_cases, or_left, or_right}
-use Rattle.lattices.specs.Bits.{bit, bit_below, bit_high, bit_of_or, Within, same_ones, same_bits, count_below, count_ones}
+use Rattle.std.proofs.lemmas.Bool.{both_ways, eqb-true, eq-eqb, cases_eq, cases_lt, or_cases, or_left, or_right}
+use Rattle.std.proofs.lemmas.Bool.Decides.{nat_tests}
+use Rattle.std.proofs.lemmas.Nat.Bits.{bit_at-lt, bit_at-zero, bit_at_above, bit_at_or, same_from_bits}
+use Rattle.lattices.specs.Bits.{bit, Within, same_ones, count_below, count_ones}
 use Rattle.lattices.specs.Laws.{LatticeLaws}
 use Rattle.lattices.specs.declared.number_set.NumberSet.{NumberSet}
 
@@ -56,14 +58,14 @@ has_bit x n = eqb-true (bit x.bits n) 1
 
 subset_within : (x y : NumberSet) → Subset x y → Within x.bits y.bits
 subset_within x y s n =
-    ⊎_elim (λ e. omega (arith, e, has_bit y n (s n (eq-eqb (bit x.bits n) 1 e)))) (λ ne. omega (arith, ne, bit_below x.bits n))
+    ⊎_elim (λ e. omega (arith, e, has_bit y n (s n (eq-eqb (bit x.bits n) 1 e)))) (λ ne. omega (arith, ne, bit_at-lt x.bits n))
     (cases_eq (bit x.bits n) 1)
 
 -- Sets each within the other are equal.
 pub subset_antisym : (x y : NumberSet) → Subset x y → Subset y x → x ≡ y
 subset_antisym x y s t =
     same_set_bits x y
-    (same_bits 64 x.bits y.bits x.fits y.fits (λ n. omega (arith, subset_within x y s n, subset_within y x t n)))
+    (same_from_bits x.bits y.bits (λ n. omega (arith, subset_within x y s n, subset_within y x t n)))
 
 -- Sets with the same members are equal.
 pub same_members : (x y : NumberSet) → Members x (Has y) → x ≡ y
@@ -71,24 +73,22 @@ same_members x y same = subset_antisym x y (λ n h. sym (same n) ∙ h) (λ n h.
 
 -- A number past 63 is in no set.
 pub has_past : (x : NumberSet) (n : ℕ) → 64 ≤ n → Has x n ≡ false
-has_past x n past = ap (λ d. nat_eq d 1) (bit_high 64 x.bits n x.fits past)
+has_past x n past = ap (λ d. nat_eq d 1) (bit_at_above x.bits 64 n x.fits past)
 
 pub has_below : (x : NumberSet) (n : ℕ) → Has x n ≡ true → n < 64
 has_below x n h = ⊎_elim (λ less. less) (λ past. absurd (both_ways (Has x n) (has_past x n past) h)) (cases_lt n 64)
 
 -- The greater of two digits is 1 where one of them is.
 pub either_digit : (a b : ℕ) → a < 2 → b < 2 → (max a b == 1) ≡ (a == 1 || b == 1)
-either_digit a b ha hb =
-    ⊎_elim (λ e. rw (eq-eqb a 1 e) (eq-eqb (max a b) 1 (omega arith)))
-    (λ ne. rw (ne_eqb a 1 ne) (ap (λ x. nat_eq x 1) (omega arith))) (cases_eq a 1)
+either_digit a b ha hb = grind (arith, nat_tests)
 
 pub has_union : (x y : NumberSet) → Members (set_union x y) (λ n. Has x n || Has y n)
 has_union x y n =
-    ap (λ d. nat_eq d 1) (bit_of_or x.bits y.bits n)
-    ∙ either_digit (bit x.bits n) (bit y.bits n) (bit_below x.bits n) (bit_below y.bits n)
+    ap (λ d. nat_eq d 1) (bit_at_or x.bits y.bits n)
+    ∙ either_digit (bit x.bits n) (bit y.bits n) (bit_at-lt x.bits n) (bit_at-lt y.bits n)
 
 pub has_empty : Members empty_set (λ _. false)
-has_empty n = ap (λ d. nat_eq d 1) (bit_high 0 0 n (lit< tt) (omega arith))
+has_empty n = ap (λ d. nat_eq d 1) (bit_at-zero n)
 
 -- The size is the number of the bits that are 1.
 pub size_ones : (x : NumberSet) → set_size x ≡ ones x.bits

@@ -44,6 +44,7 @@ impl<A: Lattice, B: Lattice> Lattice for Pair<A, B> {
         self.first.equal(other.first) && self.second.equal(other.second)
     }
 
+    // The derived order would look at the second halves only where the first are equal.
     fn below(self, other: Pair<A, B>) -> bool {
         self.first.below(other.first) && self.second.below(other.second)
     }

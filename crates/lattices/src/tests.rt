@@ -16,7 +16,7 @@ fn answers(rt: HostRuntime) {
     let yes = YesNo { yes: true };
     assert!(rt; joins(no, no) && joins(no, yes) && joins(yes, no) && joins(yes, yes));
     assert!(rt; no.below(yes) && !yes.below(no));
-    assert_eq!(rt; <YesNo as Lattice>::told_height(), 1);
+    assert_eq!(rt; YesNo::told_height(), 1);
 }
 
 #[test]
@@ -26,22 +26,19 @@ fn sets(rt: HostRuntime) {
     assert!(rt; joins(low, high) && joins(high, low) && joins(low, low));
     assert!(rt; low.contains(5) && !low.contains(4) && high.contains(63) && !high.contains(64));
     assert_eq!(rt; high.len(), 1);
-    assert!(rt; high.remove(64).equal(high) && high.remove(63).equal(NumberSet::empty()));
+    assert_eq!(rt; high.remove(64), high);
+    assert_eq!(rt; high.remove(63), NumberSet::empty());
     assert_eq!(rt; low.next_from(1), Some(5));
     assert_eq!(rt; low.next_from(6), None);
     assert_eq!(rt; high.next_from(64), None);
-    assert_eq!(rt; <NumberSet as Lattice>::told_height(), 64);
+    assert_eq!(rt; NumberSet::told_height(), 64);
 }
 
 #[test]
 fn ascending(rt: HostRuntime) {
     let set = NumberSet::empty().insert(63).insert(2).insert(40);
-    let mut least = 0;
-    for number in set.numbers() {
-        assert!(rt; least <= number && set.contains(number));
-        least = number;
-    }
-    assert_eq!(rt; least, 63);
+    assert!(rt; set.numbers().is_sorted() && set.numbers().all(|number| set.contains(number)));
+    assert_eq!(rt; set.numbers().last(), Some(63));
 }
 
 #[test]
@@ -57,5 +54,5 @@ fn pairs(rt: HostRuntime) {
     };
     assert!(rt; joins(left, right) && joins(right, right));
     assert!(rt; !left.below(right) && !right.below(left) && !left.equal(right));
-    assert_eq!(rt; <Pair<YesNo, NumberSet> as Lattice>::told_height(), 65);
+    assert_eq!(rt; Pair::<YesNo, NumberSet>::told_height(), 65);
 }

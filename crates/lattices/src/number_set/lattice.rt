@@ -32,7 +32,7 @@ impl Lattice for NumberSet {
     }
 
     fn below(self, other: NumberSet) -> bool {
-        self.join(other).equal(other)
+        self.join(other) == other
     }
 
     fn told_height() -> u32 {

@@ -1,8 +1,15 @@
 // Operations on sets of numbers.
-ghost use Rattle.std.specs.Prelude.{◌≡◌, false, not, ◌&&◌, ◌||◌, ◌==◌, nat_lt};
+ghost use Rattle.std.specs.Prelude.{◌≡◌, ◌^◌, false, cond, not, ◌&&◌, ◌||◌, ◌==◌, nat_lt};
 ghost use Rattle.lattices.specs.Sets.{Has, Members, LeastFrom, set_size};
 
 use crate::number_set::NumberSet;
+
+// The bit at the place of the number. A number past 63 has no bit.
+fn bit(number: usize) -> u64
+    ensures { result ≡ cond (nat_lt number 64) (2 ^ number) 0 }
+{
+    if number < 64 { 1 << number } else { 0 }
+}
 
 impl NumberSet {
     // The set with no members.
@@ -15,18 +22,15 @@ impl NumberSet {
     pub fn contains(self, number: usize) -> bool
         ensures { result ≡ Has self number }
     {
-        number < 64 && (self.bits >> number) & 1 == 1
+        self.bits & bit(number) != 0
     }
 
     // The set with the number added. A number past 63 changes nothing.
     pub fn insert(self, number: usize) -> NumberSet
         ensures { Members result (λ n. Has self n || (n == number && nat_lt n 64)) }
     {
-        if number >= 64 {
-            return self;
-        }
         NumberSet {
-            bits: self.bits | 1 << number,
+            bits: self.bits | bit(number),
         }
     }
 
@@ -34,11 +38,8 @@ impl NumberSet {
     pub fn remove(self, number: usize) -> NumberSet
         ensures { Members result (λ n. Has self n && not (n == number)) }
     {
-        if number >= 64 {
-            return self;
-        }
         NumberSet {
-            bits: self.bits & !(1 << number),
+            bits: self.bits & !bit(number),
         }
     }
 
@@ -65,11 +66,7 @@ impl NumberSet {
         if from >= 64 {
             return None;
         }
-        let skipped = (self.bits >> from).trailing_zeros() as usize;
-        if skipped < 64 {
-            Some(from + skipped)
-        } else {
-            None
-        }
+        let later = self.bits >> from;
+        (later != 0).then_some(from + later.trailing_zeros() as usize)
     }
 }

@@ -8,4 +8,4 @@ pub returns : goal.returns
 returns c =
     let x = c.args.self in
     let y = c.args.other in
-    Decides-at c.equal.result _ (c.equal.ensures ∙ ap (λ u. same_set u y) c.join.ensures) (join_decides set_laws x y)
+    Decides-at c.eq.result _ (c.eq.ensures ∙ ap (λ u. same_set u y) c.join.ensures) (join_decides set_laws x y)

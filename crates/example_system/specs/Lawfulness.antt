@@ -1,5 +1,5 @@
 -- The system follows the rules of a system. Assumes nothing.
-use Rattle.std.specs.Prelude.{◌≡◌, ℕ, ◌+◌, ◌<◌, ◌≤◌, min, Bool, true, false, cond, List, length, Some, None, Ok, Err, vec_items, vec_len, Option, Result, nat_lt, slice_index_or, refl}
+use Rattle.std.specs.Prelude.{◌≡◌, ℕ, zero, suc, ◌+◌, ◌<◌, ◌≤◌, min, Bool, true, false, cond, List, [], ◌∷◌, length, take, Some, None, Ok, Err, vec_items, vec_len, Option, Result, nat_lt, slice_index_or, refl}
 use Rattle.std.proofs.Common.{sym, ap, ◌∙◌, ⊎_elim, arith}
 use Rattle.equations.specs.Equations.{Lawful}
 use Rattle.lattices.specs.Laws.{LatticeLaws}
@@ -8,7 +8,9 @@ use Rattle.lattices.specs.Sets.{Subset, empty_set, set_union, same_set, set_size
 use Rattle.lattices.specs.YesNos.{answer_no, yes_le, yes_lub, yes_same, yes_rank, yes_laws}
 use Rattle.references.specs.declared.Dangling.{Dangling}
 use Rattle.std.specs.List.{slice_get}
+use Rattle.std.proofs.lemmas.List.{length-take}
 use Rattle.std.proofs.lemmas.Option.{slice_get_past, slice_get_read}
+use Rattle.std.proofs.lemmas.Bool.Decides.{nat_tests}
 use Rattle.std.proofs.lemmas.Bool.{cases_lt, cond-false, cond_both, le-ltb, lt-ltb, ltb-true, false≢true}
 use Rattle.example_system.specs.declared.parts.ExampleSystem.{ExampleSystem}
 use Rattle.example_system.specs.declared.parts.Instance.{Instance}
@@ -28,21 +30,20 @@ lub_mono : {V : Type 0} {bot : V} {below : V → V → Type 0} {lub : V → V �
     LatticeLaws bot below lub same height rank → (x y v w : V) → below x y → below v w → below (lub x v) (lub y w)
 lub_mono l x y v w p q = l.lub_le x v _ (l.le_trans x y _ p (l.le_lub_left y w)) (l.le_trans v w _ q (l.le_lub_right y w))
 
--- past the end of a list, or past 4,096, there is nothing
-pub past : {X : Type 0} (xs : List X) (n i : ℕ) → n ≡ length xs → min n 4096 ≤ i → cond (nat_lt i 4096) (slice_get xs i) None ≡ None
-past xs n i e le =
-    ⊎_elim
-    (λ lt. ap (λ o. cond (nat_lt i 4096) o None) (slice_get_past xs i (omega arith)) ∙ same (nat_lt i 4096))
-    (λ ge. cond-false (nat_lt i 4096) (slice_get xs i) None (le-ltb i 4096 ge))
-    (cases_lt i 4096)
-  where
-    same : {X : Type 0} (b : Bool) → cond {A = Option X} b None None ≡ None
-    same true = refl
-    same false = refl
+both_more : (m n : ℕ) → nat_lt m n ≡ nat_lt (suc m) (suc n)
+both_more m n = grind (arith, nat_tests)
 
--- within both there is what stands there
-pub present : {X : Type 0} (xs : List X) (n i : ℕ) (x : X) → n ≡ length xs → i < min n 4096 → x ≡ slice_index_or xs i x → cond (nat_lt i 4096) (slice_get xs i) None ≡ Some x
-present xs n i x e lt is = ap (λ b. cond b (slice_get xs i) None) (lt-ltb i 4096 (omega arith)) ∙ slice_get_read xs n i x e (omega arith) is
+-- an element of the first n
+pub limited_at : {X : Type 0} (xs : List X) (n i : ℕ) → slice_get (take n xs) i ≡ cond (nat_lt i n) (slice_get xs i) None
+limited_at [] zero i = sym (cond_both (nat_lt i 0) None None (λ o. o ≡ None) (λ _. refl) (λ _. refl))
+limited_at [] (suc n) i = sym (cond_both (nat_lt i (suc n)) None None (λ o. o ≡ None) (λ _. refl) (λ _. refl))
+limited_at (x ∷ xs) zero i = sym (ap (λ b. cond b (slice_get (x ∷ xs) i) None) (le-ltb i 0 (omega arith)))
+limited_at (x ∷ xs) (suc n) zero = sym (ap (λ b. cond b (Some x) None) (lt-ltb 0 (suc n) (omega arith)))
+limited_at (x ∷ xs) (suc n) (suc i) = limited_at xs n i ∙ ap (λ b. cond b (slice_get xs i) None) (both_more i n)
+
+-- past the end of a list, or past 4,096, there is nothing
+past : {X : Type 0} (xs : List X) (n i : ℕ) → n ≡ length xs → min n 4096 ≤ i → cond (nat_lt i 4096) (slice_get xs i) None ≡ None
+past xs n i e le = sym (limited_at xs 4096 i) ∙ slice_get_past (take 4096 xs) i (omega (arith, length-take 4096 xs))
 
 no_instance : (s : ExampleSystem) (i : ℕ) → size_of s ≤ i → instance_at s i ≡ None
 no_instance s i h = past (vec_items s.instances) (vec_len s.instances) i s.instances.ok.0 h

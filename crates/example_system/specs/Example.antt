@@ -25,6 +25,10 @@ applied Join x v = pair_lub yes_lub set_union x v
 applied AndThen x v = cond x.first.yes (pair v.first (set_union x.second v.second)) x
 applied (Constant c) x v = c
 
+-- the operand that joins the value of a target
+abbrev pub joined : Result ℕ Dangling → Operand
+joined t = record { target = t; step = Join }
+
 -- how many instances there are: 4,096 at most
 abbrev pub size_of : ExampleSystem → ℕ
 size_of s = min (vec_len s.instances) 4096

@@ -1,6 +1,6 @@
 -- The system follows the rules of a system. Assumes nothing.
-use Rattle.std.specs.Prelude.{◌≡◌, ℕ, zero, suc, ◌+◌, ◌<◌, ◌≤◌, min, Bool, true, false, cond, List, [], ◌∷◌, length, take, Some, None, Ok, Err, vec_items, vec_len, Option, Result, nat_lt, slice_index_or, refl}
-use Rattle.std.proofs.Common.{sym, ap, ◌∙◌, ⊎_elim, arith}
+use Rattle.std.specs.Prelude.{◌≡◌, ℕ, zero, suc, ◌+◌, ◌<◌, ◌≤◌, min, Bool, true, false, cond, List, [], ◌∷◌, length, take, Some, None, Ok, Err, vec_items, vec_len, Option, Result, nat_lt, refl}
+use Rattle.std.proofs.Common.{sym, ap, ◌∙◌, arith}
 use Rattle.equations.specs.Equations.{Lawful}
 use Rattle.lattices.specs.Laws.{LatticeLaws}
 use Rattle.lattices.specs.Pairs.{pair, pair_le, pair_lub, pair_same, pair_rank, pair_laws}
@@ -9,9 +9,9 @@ use Rattle.lattices.specs.YesNos.{answer_no, yes_le, yes_lub, yes_same, yes_rank
 use Rattle.references.specs.declared.Dangling.{Dangling}
 use Rattle.std.specs.List.{slice_get}
 use Rattle.std.proofs.lemmas.List.{length-take}
-use Rattle.std.proofs.lemmas.Option.{slice_get_past, slice_get_read}
+use Rattle.std.proofs.lemmas.Option.{slice_get_past}
 use Rattle.std.proofs.lemmas.Bool.Decides.{nat_tests}
-use Rattle.std.proofs.lemmas.Bool.{cases_lt, cond-false, cond_both, le-ltb, lt-ltb, ltb-true, false≢true}
+use Rattle.std.proofs.lemmas.Bool.{cond_both, le-ltb, lt-ltb, ltb-true, false≢true}
 use Rattle.example_system.specs.declared.parts.ExampleSystem.{ExampleSystem}
 use Rattle.example_system.specs.declared.parts.Instance.{Instance}
 use Rattle.example_system.specs.declared.parts.Operand.{Operand}

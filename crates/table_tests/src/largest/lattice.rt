@@ -4,7 +4,7 @@ ghost use Rattle.table_tests.specs.Largest.{zero, le, larger, same, rank, larges
 
 use crate::largest::Largest;
 use equations::System;
-use lattices::Lattice;
+use lattices::{Lattice, TOLD_HEIGHT_LIMIT};
 use references::Dangling;
 
 impl Lattice for Largest {
@@ -27,21 +27,19 @@ impl Lattice for Largest {
     }
 
     fn join(self, other: Largest) -> Largest {
-        Largest {
-            number: self.number.max(other.number),
-        }
+        self.max(other)
     }
 
     fn equal(self, other: Largest) -> bool {
-        self.number == other.number
+        self == other
     }
 
     fn below(self, other: Largest) -> bool {
-        self.number <= other.number
+        self <= other
     }
 
     fn told_height() -> u32 {
-        65536
+        TOLD_HEIGHT_LIMIT
     }
 }
 
@@ -73,7 +71,7 @@ impl System for NoEquations {
     }
 
     fn start(&self, _instance: usize) -> Largest {
-        Largest { number: 0 }
+        Largest::bottom()
     }
 
     fn step(&self, _instance: usize, _index: usize, so_far: Largest, _operand: Largest) -> Largest {

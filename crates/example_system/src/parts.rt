@@ -1,11 +1,10 @@
 // What the system is made of.
 use lattices::number_set::NumberSet;
 use lattices::pair::Pair;
-use lattices::yes_no::YesNo;
 use references::Dangling;
 
 // Whether something may be empty, and the numbers that it may begin with.
-pub type Value = Pair<YesNo, NumberSet>;
+pub type Value = Pair<bool, NumberSet>;
 
 // How the value of an operand goes into the value so far.
 #[derive(Clone, Copy)]

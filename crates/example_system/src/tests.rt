@@ -5,7 +5,6 @@ use equations::work::work;
 use lattices::Lattice;
 use lattices::number_set::NumberSet;
 use lattices::pair::Pair;
-use lattices::yes_no::YesNo;
 use references::Dangling;
 use std::alloc::{AllocError, Global};
 use std::process::Abort;
@@ -13,7 +12,7 @@ use std::test::Fail;
 
 fn value(yes: bool, number: usize) -> Value {
     Pair {
-        first: YesNo { yes },
+        first: yes,
         second: NumberSet::empty().insert(number),
     }
 }
@@ -39,7 +38,7 @@ fn joins(
 fn bottoms(heap: Global, system: &ExampleSystem) -> Result<Vec<Value>, AllocError> {
     let mut values = Vec::new(heap);
     for _ in 0..system.size() {
-        values.push(<Pair<YesNo, NumberSet> as Lattice>::bottom())?;
+        values.push(<Pair<bool, NumberSet> as Lattice>::bottom())?;
     }
     Ok(values)
 }

@@ -2,12 +2,12 @@
 use Rattle.std.proofs.Common.{◌≡◌, ℕ, zero, suc, ◌<◌, ◌≤◌, Bool, true, false, ◌||◌, eqb, ◌⊎◌, Ok, Err, Decides, sym, refl, ap, ◌∙◌, subst, inl, inr, ⊎_elim, arith}
 use Rattle.std.proofs.lemmas.Bool.{cases_lt, cases_Bool, both_ways, false≢true, or_left, or_right, or_cases, eqb-true, eq-eqb}
 use Rattle.std.proofs.lemmas.Bool.Decides.{Decides-below_or}
+use Rattle.lattices.specs.YesNos.{yes_le, yes_laws}
 use Rattle.references.specs.declared.Dangling.{Dangling}
 use Rattle.equations.specs.Equations.{Equations, Operand, stepped, after, Lawful}
 use Rattle.equations.specs.Reach.{Reach, here, along, ReachesDangling, Whole}
 use Rattle.equations.proofs.Monotone.{StepKeeps}
 use Rattle.equations.proofs.Least.{iterate, stationary, solution, solution_solves}
-use Rattle.equations.proofs.YesNo.{Implies, bool_laws}
 
 -- The equations of: is d true of this instance, or of one that it reaches?
 abbrev yes_no : {V : Type 0} → Equations V → (ℕ → Bool) → Equations Bool
@@ -55,23 +55,23 @@ module _ {V : Type 0} (e : Equations V) (d : ℕ → Bool) where
         ap (stepped (yes_no e d) w i n x) (ap (e.operand i) k ∙ q) ∙ or_right x (w j) t)
         (cases_lt o n)
 
-  yes_no_keeps : StepKeeps Implies (yes_no e d)
+  yes_no_keeps : StepKeeps yes_le (yes_no e d)
   yes_no_keeps i k x y v w p q t = ⊎_elim (λ a. or_left y w (p a)) (λ b. or_right y w (q b)) (or_cases x v t)
 
   -- The least solution over yes and no.
   abbrev answer : ℕ → Bool
-  answer = solution bool_laws (yes_no e d) yes_no_keeps
+  answer = solution yes_laws (yes_no e d) yes_no_keeps
 
   answer_sound : (i : ℕ) → answer i ≡ true → ReachesTrue i
   unfolding solution
-  answer_sound i t = iterate_sound (stationary bool_laws (yes_no e d) yes_no_keeps).0 i t
+  answer_sound i t = iterate_sound (stationary yes_laws (yes_no e d) yes_no_keeps).0 i t
 
   module _ {bot : V} {le : V → V → Type 0} (lawful : Lawful bot le e) where
     answer_complete : {i j : ℕ} → i < e.size → Reach e i j → d j ≡ true → answer i ≡ true
     answer_complete {i} l here t =
-        solution_solves bool_laws (yes_no e d) yes_no_keeps i l ∙ after_start answer i (e.count i) t
+        solution_solves yes_laws (yes_no e d) yes_no_keeps i l ∙ after_start answer i (e.count i) t
     answer_complete {i} l (along {j = k} o m q p) t =
-        solution_solves bool_laws (yes_no e d) yes_no_keeps i l ∙ after_operand answer i k o (e.count i) m q (answer_complete (lawful.operand_within i o k q) p t)
+        solution_solves yes_laws (yes_no e d) yes_no_keeps i l ∙ after_operand answer i k o (e.count i) m q (answer_complete (lawful.operand_within i o k q) p t)
 
     pub reaches_true_decided : (i : ℕ) → i < e.size → ReachesTrue i ⊎ (ReachesTrue i → ⊥)
     reaches_true_decided i l =

@@ -3,7 +3,6 @@ pub mod Monotone
 pub mod Paths
 pub mod Ranks
 pub mod Least
-pub mod YesNo
 pub mod Decided
 pub mod Turns
 pub mod Rising

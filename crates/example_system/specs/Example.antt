@@ -1,12 +1,10 @@
 -- The equations of a system that is written down by hand. Assumes nothing.
-use Rattle.std.specs.Prelude.{ℕ, min, cond, Some, None, Ok, Err, vec_items, vec_len, Option, Result, nat_lt}
+use Rattle.std.specs.Prelude.{ℕ, min, Bool, false, cond, ◌||◌, Some, None, Ok, Err, vec_items, vec_len, Option, Result, nat_lt}
 use Rattle.equations.specs.Equations.{Equations}
 use Rattle.lattices.specs.Pairs.{pair, pair_lub}
 use Rattle.lattices.specs.Sets.{empty_set, set_union}
-use Rattle.lattices.specs.YesNos.{answer_no, yes_lub}
 use Rattle.lattices.specs.declared.number_set.NumberSet.{NumberSet}
 use Rattle.lattices.specs.declared.pair.Pair.{Pair}
-use Rattle.lattices.specs.declared.yes_no.YesNo.{YesNo}
 use Rattle.references.specs.declared.Dangling.{Dangling}
 use Rattle.std.specs.List.{slice_get}
 use Rattle.example_system.specs.declared.parts.ExampleSystem.{ExampleSystem}
@@ -17,12 +15,12 @@ use Rattle.example_system.specs.declared.parts.Step.TheVariants.{Join, AndThen, 
 
 -- whether something may be empty, and the numbers that it may begin with
 abbrev pub Values : Type 0
-Values = Pair YesNo NumberSet
+Values = Pair Bool NumberSet
 
 -- the value after a step
 abbrev pub applied : Step → Values → Values → Values
-applied Join x v = pair_lub yes_lub set_union x v
-applied AndThen x v = cond x.first.yes (pair v.first (set_union x.second v.second)) x
+applied Join x v = pair_lub ◌||◌ set_union x v
+applied AndThen x v = cond x.first (pair v.first (set_union x.second v.second)) x
 applied (Constant c) x v = c
 
 -- the operand that joins the value of a target
@@ -42,7 +40,7 @@ count_of None = 0
 
 abbrev pub start_of : Option Instance → Values
 start_of (Some x) = x.start
-start_of None = pair answer_no empty_set
+start_of None = pair false empty_set
 
 abbrev pub operand_at : Option Instance → ℕ → Option Operand
 operand_at (Some x) k = cond (nat_lt k 4096) (slice_get (vec_items x.operands) k) None

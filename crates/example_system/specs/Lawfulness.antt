@@ -1,12 +1,13 @@
 -- The system follows the rules of a system. Assumes nothing.
-use Rattle.std.specs.Prelude.{◌≡◌, ℕ, zero, suc, ◌+◌, ◌<◌, ◌≤◌, min, Bool, true, false, cond, List, [], ◌∷◌, length, take, Some, None, Ok, Err, vec_items, vec_len, Option, Result, nat_lt, refl}
+use Rattle.std.specs.Prelude.{◌≡◌, ℕ, zero, suc, ◌+◌, ◌<◌, ◌≤◌, min, Bool, true, false, cond, ◌||◌, List, [], ◌∷◌, length, take, Some, None, Ok, Err, vec_items, vec_len, Option, Result, nat_lt, refl}
 use Rattle.std.proofs.Common.{sym, ap, ◌∙◌, arith}
 use Rattle.equations.specs.Equations.{Lawful}
 use Rattle.lattices.specs.Laws.{LatticeLaws}
 use Rattle.lattices.specs.Pairs.{pair, pair_le, pair_lub, pair_same, pair_rank, pair_laws}
 use Rattle.lattices.specs.Sets.{Subset, empty_set, set_union, same_set, set_size, set_laws}
-use Rattle.lattices.specs.YesNos.{answer_no, yes_le, yes_lub, yes_same, yes_rank, yes_laws}
+use Rattle.lattices.specs.YesNos.{yes_le, yes_rank, yes_laws}
 use Rattle.references.specs.declared.Dangling.{Dangling}
+use Rattle.std.specs.Bool.{beq}
 use Rattle.std.specs.List.{slice_get}
 use Rattle.std.proofs.lemmas.List.{length-take}
 use Rattle.std.proofs.lemmas.Option.{slice_get_past}
@@ -22,7 +23,7 @@ use Rattle.example_system.specs.Example.{Values, applied, size_of, instance_at, 
 abbrev le : Values → Values → Type 0
 le = pair_le yes_le Subset
 
-laws : LatticeLaws (pair answer_no empty_set) le (pair_lub yes_lub set_union) (pair_same yes_same same_set) (1 + 64) (pair_rank yes_rank set_size)
+laws : LatticeLaws (pair false empty_set) le (pair_lub ◌||◌ set_union) (pair_same beq same_set) (1 + 64) (pair_rank yes_rank set_size)
 laws = pair_laws yes_laws set_laws
 
 -- a join is monotone in both values
@@ -68,7 +69,7 @@ operand_within n (Some o) j e = target_within n o.target j e
 operand_within n None j e = absurd (let z : ◌≡◌ {A = ℕ} 0 1 = cc in omega arith)
 
 -- if the value so far is yes, the operand's value goes in
-and_then : (b c : Bool) (x y v w : Values) → x.first.yes ≡ b → y.first.yes ≡ c → le x y → le v w →
+and_then : (b c : Bool) (x y v w : Values) → x.first ≡ b → y.first ≡ c → le x y → le v w →
     le (cond b (pair v.first (set_union x.second v.second)) x) (cond c (pair w.first (set_union y.second w.second)) y)
 and_then true true x y v w d e p q = (q.0, lub_mono set_laws x.second y.second v.second w.second p.1 q.1)
 and_then true false x y v w d e p q = absurd (false≢true (sym e ∙ p.0 d))
@@ -78,14 +79,14 @@ and_then false false x y v w d e p q = p
 
 apply_mono : (step : Step) (x y v w : Values) → le x y → le v w → le (applied step x v) (applied step y w)
 apply_mono Join x y v w p q = lub_mono laws x y v w p q
-apply_mono AndThen x y v w p q = and_then x.first.yes y.first.yes x y v w refl refl p q
+apply_mono AndThen x y v w p q = and_then x.first y.first x y v w refl refl p q
 apply_mono (Constant c) x y v w p q = laws.le_refl c
 
 step_mono : (o : Option Operand) (x y v w : Values) → le x y → le v w → le (step_of o x v) (step_of o y w)
 step_mono (Some o) x y v w p q = apply_mono o.step x y v w p q
 step_mono None x y v w p q = p
 
-pub example_lawful : (s : ExampleSystem) → Lawful (pair answer_no empty_set) le (example_equations s)
+pub example_lawful : (s : ExampleSystem) → Lawful (pair false empty_set) le (example_equations s)
 example_lawful s = record {
   size_within = omega arith;
   count_within = λ i. count_within (instance_at s i);

@@ -5,20 +5,19 @@ ghost use Rattle.example_system.specs.Example.{joined};
 
 use lattices::number_set::NumberSet;
 use lattices::pair::Pair;
-use lattices::yes_no::YesNo;
 use references::Dangling;
 use std::alloc::{AllocError, Global};
 
 // Whether something may be empty, and the numbers that it may begin with.
-pub type Value = Pair<YesNo, NumberSet>;
+pub type Value = Pair<bool, NumberSet>;
 
 // The value with the number alone, or with no number where it is past 63.
 pub fn singleton(yes: bool, number: usize) -> Value
-    ensures yes { result.first.yes ≡ yes }
+    ensures yes { result.first ≡ yes }
     ensures numbers { Members result.second (λ n. n == number && nat_lt n 64) }
 {
     Pair {
-        first: YesNo { yes },
+        first: yes,
         second: NumberSet::empty().insert(number),
     }
 }

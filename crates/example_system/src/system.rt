@@ -1,9 +1,9 @@
 // The equations of the system.
-ghost use Rattle.std.specs.Prelude.{◌≡◌, length, min, take};
+ghost use Rattle.std.specs.Prelude.{◌≡◌, false, length, min, take};
 ghost use Rattle.std.specs.Option.{option_map};
 ghost use Rattle.lattices.specs.Pairs.{pair, pair_le};
 ghost use Rattle.lattices.specs.Sets.{Subset, empty_set};
-ghost use Rattle.lattices.specs.YesNos.{answer_no, yes_le};
+ghost use Rattle.lattices.specs.YesNos.{yes_le};
 ghost use Rattle.example_system.specs.Example.{applied, example_equations, instance_at, operand_at};
 ghost use Rattle.example_system.specs.Lawfulness.{example_lawful};
 
@@ -12,7 +12,6 @@ use equations::System;
 use lattices::Lattice;
 use lattices::number_set::NumberSet;
 use lattices::pair::Pair;
-use lattices::yes_no::YesNo;
 use references::Dangling;
 
 // The number of instances and of operands at most.
@@ -36,7 +35,7 @@ impl Step {
     {
         match self {
             Step::Join => so_far.join(operand),
-            Step::AndThen if so_far.first.yes => Pair {
+            Step::AndThen if so_far.first => Pair {
                 first: operand.first,
                 second: so_far.second.join(operand.second),
             },
@@ -68,7 +67,7 @@ impl System for ExampleSystem {
 
     ghost order = { pair_le yes_le Subset };
 
-    ghost least = { pair answer_no empty_set };
+    ghost least = { pair false empty_set };
 
     ghost lawful = { example_lawful };
 

@@ -2,7 +2,6 @@
 use Rattle.std.proofs.Common.{◌≡◌, ℕ, suc, ◌^◌, ◌<◌, Bool, true, false, cond, ◌||◌, eqb, ltb, ◌⊎◌, ◌↔◌, List, [], ◌∷◌, Some, None, Ok, Err, sym, refl, ap, ◌∙◌, inl, inr, ⊎_elim, arith}
 use Rattle.lattices.specs.Bits.{bit}
 use Rattle.lattices.specs.Pairs.{pair}
-use Rattle.lattices.specs.YesNos.{answer_no}
 use Rattle.lattices.specs.Sets.{Has, empty_set, set_union, has_union, has_empty}
 use Rattle.lattices.specs.declared.number_set.NumberSet.{NumberSet}
 use Rattle.std.specs.List.{slice_get}
@@ -31,7 +30,7 @@ empty_has c e = absurd (both_ways (Has empty_set c) (has_empty c) e)
 
 -- The set of one number under a condition.
 abbrev chosen : Bool → ℕ → Value
-chosen b n = cond b (pair answer_no (single n)) bottom
+chosen b n = cond b (pair false (single n)) bottom
 
 chosen_has : (b : Bool) (n c : ℕ) → has (chosen b n) c ≡ true → (b ≡ true) × (c ≡ n)
 chosen_has true n c e = (refl, has_single n c e)

@@ -1,14 +1,15 @@
 -- The values of a grammar's system are a lattice, and its steps are monotone. Assumes nothing.
-use Rattle.std.proofs.Common.{ℕ, Bool, sym, subst}
+use Rattle.std.proofs.Common.{ℕ, Bool, ◌||◌, sym, subst}
 use Rattle.lattices.specs.Laws.{LatticeLaws}
 use Rattle.lattices.specs.Pairs.{pair, pair_laws, pair_lub, pair_same, pair_rank}
 use Rattle.lattices.specs.Sets.{Subset, set_union, set_laws, same_set, set_size}
-use Rattle.lattices.specs.YesNos.{yes_laws, yes_lub, yes_same, yes_rank}
+use Rattle.lattices.specs.YesNos.{yes_laws, yes_rank}
 use Rattle.lattices.specs.declared.number_set.NumberSet.{NumberSet}
+use Rattle.std.specs.Bool.{beq}
 use Rattle.std.proofs.lemmas.Bool.{cond_both, cond-true, both_ways}
 use Rattle.grammar_equations.specs.Values.{Value, le, bottom, nullable, StepSort, join, concatenate, followed, stepped}
 
-pub value_laws : LatticeLaws bottom le (pair_lub yes_lub set_union) (pair_same yes_same same_set) 65 (pair_rank yes_rank set_size)
+pub value_laws : LatticeLaws bottom le (pair_lub ◌||◌ set_union) (pair_same beq same_set) 65 (pair_rank yes_rank set_size)
 value_laws = pair_laws yes_laws set_laws
 
 -- A join rises with both halves.

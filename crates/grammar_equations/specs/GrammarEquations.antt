@@ -2,7 +2,6 @@
 use Rattle.std.specs.Prelude.{ℕ, zero, suc, ◌+◌, ◌-◌, Bool, false, cond, List, [], ◌∷◌, ◌++◌, map, length, Some, None, Ok, Err, Option, Result, ◌==◌, nat_eq, nat_lt}
 use Rattle.equations.specs.Equations.{Equations, Operand}
 use Rattle.lattices.specs.Pairs.{pair}
-use Rattle.lattices.specs.YesNos.{answer_no}
 use Rattle.references.specs.declared.Dangling.{Dangling}
 use Rattle.std.specs.List.{slice_get}
 use Rattle.grammar_equations.specs.Instances.{Instance, symbol, suffix, occurrence, follow, instance_count, number, decode}
@@ -55,10 +54,10 @@ module _ (g : Rules) where
 
   -- The value that an instance starts from.
   abbrev pub start_of : Instance → Value
-  start_of (symbol s) = cond (nat_lt s g.terminals) (pair answer_no (single s)) bottom
+  start_of (symbol s) = cond (nat_lt s g.terminals) (pair false (single s)) bottom
   start_of (suffix p k) = empty_form
   start_of (occurrence p k) = empty_form
-  start_of (follow a) = cond (a == 0) (pair answer_no (single end_mark)) bottom
+  start_of (follow a) = cond (a == 0) (pair false (single end_mark)) bottom
 
   -- How an instance takes in its operand k.
   abbrev pub step_sort : Instance → ℕ → StepSort

@@ -8,7 +8,8 @@ pub mod number_set;
 pub mod pair;
 #[cfg(test)]
 mod tests;
-pub mod yes_no;
+// bool is the lattice of no and yes.
+mod yes_no;
 
 // The height that is told at most.
 pub const TOLD_HEIGHT_LIMIT: u32 = 65536;

@@ -2,7 +2,6 @@
 use crate::Lattice;
 use crate::number_set::NumberSet;
 use crate::pair::Pair;
-use crate::yes_no::YesNo;
 
 // The laws of a join at two values.
 fn joins<L: Lattice>(x: L, y: L) -> bool {
@@ -12,11 +11,11 @@ fn joins<L: Lattice>(x: L, y: L) -> bool {
 
 #[test]
 fn answers(rt: HostRuntime) {
-    let no = YesNo { yes: false };
-    let yes = YesNo { yes: true };
+    let no = false;
+    let yes = true;
     assert!(rt; joins(no, no) && joins(no, yes) && joins(yes, no) && joins(yes, yes));
     assert!(rt; no.below(yes) && !yes.below(no));
-    assert_eq!(rt; YesNo::told_height(), 1);
+    assert_eq!(rt; bool::told_height(), 1);
 }
 
 #[test]
@@ -45,14 +44,14 @@ fn ascending(rt: HostRuntime) {
 fn pairs(rt: HostRuntime) {
     let set = NumberSet::empty().insert(7);
     let left = Pair {
-        first: YesNo { yes: true },
+        first: true,
         second: NumberSet::empty(),
     };
     let right = Pair {
-        first: YesNo { yes: false },
+        first: false,
         second: set,
     };
     assert!(rt; joins(left, right) && joins(right, right));
     assert!(rt; !left.below(right) && !right.below(left) && !left.equal(right));
-    assert_eq!(rt; Pair::<YesNo, NumberSet>::told_height(), 65);
+    assert_eq!(rt; Pair::<bool, NumberSet>::told_height(), 65);
 }

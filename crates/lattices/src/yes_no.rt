@@ -1,22 +1,18 @@
-// The lattice of no and yes.
-ghost use Rattle.lattices.specs.YesNos.{answer_no, yes_le, yes_lub, yes_same, yes_rank, yes_laws};
+// bool as the lattice of no and yes, with no at the bottom.
+ghost use Rattle.std.specs.Prelude.{false, ◌||◌};
+ghost use Rattle.std.specs.Bool.{beq};
+ghost use Rattle.lattices.specs.YesNos.{yes_le, yes_rank, yes_laws};
 
 use crate::Lattice;
 
-// No or yes; no is below yes.
-#[derive(Clone, Copy, Debug, PartialEq, Eq, PartialOrd, Ord)]
-pub struct YesNo {
-    pub yes: bool,
-}
-
-impl Lattice for YesNo {
-    ghost bot = { answer_no };
+impl Lattice for bool {
+    ghost bot = { false };
 
     ghost le = { yes_le };
 
-    ghost lub = { yes_lub };
+    ghost lub = { ◌||◌ };
 
-    ghost same = { yes_same };
+    ghost same = { beq };
 
     ghost height = { 1 };
 
@@ -24,21 +20,19 @@ impl Lattice for YesNo {
 
     ghost laws = { yes_laws };
 
-    fn bottom() -> YesNo {
-        YesNo { yes: false }
+    fn bottom() -> bool {
+        false
     }
 
-    fn join(self, other: YesNo) -> YesNo {
-        YesNo {
-            yes: self.yes | other.yes,
-        }
+    fn join(self, other: bool) -> bool {
+        self | other
     }
 
-    fn equal(self, other: YesNo) -> bool {
+    fn equal(self, other: bool) -> bool {
         self == other
     }
 
-    fn below(self, other: YesNo) -> bool {
+    fn below(self, other: bool) -> bool {
         self <= other
     }
 

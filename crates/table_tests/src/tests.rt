@@ -9,14 +9,13 @@ use example_system::parts::{ExampleSystem, Instance, Operand, Step, Value};
 use lattices::Lattice;
 use lattices::number_set::NumberSet;
 use lattices::pair::Pair;
-use lattices::yes_no::YesNo;
 use references::Dangling;
 use std::alloc::{AllocError, Global};
 use std::test::Fail;
 
 fn value(yes: bool, number: usize) -> Value {
     Pair {
-        first: YesNo { yes },
+        first: yes,
         second: NumberSet::empty().insert(number),
     }
 }
@@ -228,7 +227,7 @@ fn making(rt: HostRuntime) -> Result<(), Fail> {
     assert!(rt; has(&short, 0, Mark::Pending, value(false, 9)));
     let mut rows = some_rows(heap, 6)?;
     assert_eq!(rt; made(Table::new(&system, &mut rows)), 0);
-    let bottom = <Pair<YesNo, NumberSet> as Lattice>::bottom();
+    let bottom = <Pair<bool, NumberSet> as Lattice>::bottom();
     assert!(rt; has(&rows, 4, Mark::Untouched, bottom));
     assert!(rt; has(&rows, 5, Mark::Pending, value(false, 9)));
     Ok(())

@@ -47,6 +47,12 @@ module _ {V : Type 0} (bot : V) where
     pub past : (j : ℕ) → n ≤ j → rows_of bot after j ≡ rows_of bot before j
     pub length : length after ≡ length before
 
+  -- Each of the first n rows is replaced by one that R relates to its number and to it; the others are as they were.
+  pub record EachReplaced (n : ℕ) (R : ℕ → Row V → Row V → Type 0) (before after : List (Row V)) : Type 0 where
+    pub first : (j : ℕ) → j < n → R j (rows_of bot before j) (rows_of bot after j)
+    pub past : (j : ℕ) → n ≤ j → rows_of bot after j ≡ rows_of bot before j
+    pub length : length after ≡ length before
+
   -- An evaluation is given up: if the session fits and there are enough rows, the record goes back to idle and the pending rows are released, `count` of them.
   -- Else nothing changes.
   pub record GivenUp (e : Equations V) (fits : Type 0) (s : State) (before : List (Row V)) (count : ℕ) (t : State) (after : List (Row V)) : Type 0 where

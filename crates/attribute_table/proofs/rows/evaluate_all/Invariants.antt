@@ -1,6 +1,6 @@
 -- The pending rows below `instance` have their equations' values.
 use Rattle.attribute_table.proofs.Sweeps.{Sweeping}
-use Rattle.attribute_table.proofs.rows.evaluate_below.Given as goal
+use Rattle.attribute_table.proofs.rows.evaluate_all.Given as goal
 
 abbrev pub invariant-loop-instance : goal.invariant-loop-instance
 invariant-loop-instance g l =

@@ -1,8 +1,8 @@
 -- A turn evaluates one row more.
 use Rattle.std.proofs.Common.{◌≡◌, ◌+◌, cond, arith}
 use Rattle.attribute_table.proofs.Sweeps.{sweeping_more}
-use Rattle.attribute_table.proofs.rows.evaluate_below.Goals as goal
-use Rattle.attribute_table.proofs.rows.evaluate_below.Goals.{then-evaluate, else-evaluate}
+use Rattle.attribute_table.proofs.rows.evaluate_all.Goals as goal
+use Rattle.attribute_table.proofs.rows.evaluate_all.Goals.{then-evaluate, else-evaluate}
 
 pub loop-instance-preserved : goal.loop-instance-preserved
 loop-instance-preserved g c =

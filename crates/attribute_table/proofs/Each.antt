@@ -10,9 +10,9 @@ use Rattle.attribute_table.specs.Effects.{EachRow, EachReplaced}
 use Rattle.attribute_table.specs.Lent.{rows_of}
 
 module _ {V : Type 0} (bot : V) where
-  -- The new rows follow from the old ones.
-  pub each_from : (R : ℕ → Row V → Row V → Type 0) (f : ℕ → Row V → Row V) {n : ℕ} {before after : List (Row V)} → ((j : ℕ) (r x : Row V) → R j r x → x ≡ f j r) → EachReplaced bot n R before after → EachRow bot n f before after
-  each_from R f {before = before} {after} gives each =
+  -- What R relates is what f gives.
+  pub each_from : {R : ℕ → Row V → Row V → Type 0} {f : ℕ → Row V → Row V} {n : ℕ} {before after : List (Row V)} → ((j : ℕ) (r x : Row V) → R j r x → x ≡ f j r) → EachReplaced bot n R before after → EachRow bot n f before after
+  each_from {before = before} {after} gives each =
       record {
         first = λ j l. gives j (rows_of bot before j) (rows_of bot after j) (each.first j l);
         past = each.past;

@@ -1,11 +1,10 @@
 // What calls do to the rows.
-ghost use Rattle.std.specs.Prelude.{◌≡◌, ℕ, ◌<◌, ◌≤◌, length, count_by, if◌then◌else◌, ◌==◌, slice_index};
+ghost use Rattle.std.specs.Prelude.{◌≡◌, ℕ, ◌<◌, ◌≤◌, length, count_by, ◌==◌, slice_index};
 ghost use Rattle.equations.specs.Equations.{Lawful};
-ghost use Rattle.equations.specs.Rounds.{turn, changed};
-ghost use Rattle.table_model.specs.Rows.{row, is_pending, pending, values};
+ghost use Rattle.table_model.specs.Rows.{row, is_pending, values};
 ghost use Rattle.table_model.specs.declared.row.Mark.TheVariants.{Untouched};
 ghost use Rattle.table_model.specs.declared.row.Row.{Row};
-ghost use Rattle.attribute_table.specs.Effects.{opened_row, closed_row, released_row, EachRow, EachReplaced, Evaluated, Iterated, PendingAtBottom};
+ghost use Rattle.attribute_table.specs.Effects.{opened_row, closed_row, released_row, EachRow, EachReplaced, EvaluatedAt, Evaluated, Iterated, PendingAtBottom};
 ghost use Rattle.attribute_table.specs.Lent.{rows_of};
 
 use equations::System;
@@ -129,10 +128,7 @@ impl<V: Lattice> Family<V> for RowValues<'_, V> {
 
 // Gives a pending row its equation's value. Tells whether that is another value.
 fn evaluate<S: System>(system: &S, rows: &mut [Row<S::Value>], instance: usize) -> bool
-    ensures marks { (j : ℕ) → (rows_of S.Value.Lattice.bot rows.new j).mark ≡ (rows_of S.Value.Lattice.bot rows.old j).mark }
-    ensures worked { (j : ℕ) → (rows_of S.Value.Lattice.bot rows.new j).value ≡ turn (S.System.equations system.now) (pending (rows_of S.Value.Lattice.bot rows.old)) instance (values (rows_of S.Value.Lattice.bot rows.old)) j }
-    ensures counts { (if result then 1 else 0) ≡ changed S.Value.Lattice.same (S.System.equations system.now) (pending (rows_of S.Value.Lattice.bot rows.old)) instance (values (rows_of S.Value.Lattice.bot rows.old)) }
-    ensures length { length rows.new ≡ length rows.old }
+    ensures { EvaluatedAt S.Value.Lattice.bot S.Value.Lattice.same (S.System.equations system.now) instance rows.old rows.new result }
 {
     match rows.get(instance) {
         Some(&row) if row.mark == Mark::Pending => {

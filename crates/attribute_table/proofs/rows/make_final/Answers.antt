@@ -4,4 +4,4 @@ use Rattle.attribute_table.proofs.Each.{each_from}
 use Rattle.attribute_table.proofs.rows.make_final.Goals as goal
 
 pub returns-clause-rows : goal.returns-clause-rows
-returns-clause-rows g c = each_from _ _ _ (λ j r x h. search rules) c.replace_each.ensures
+returns-clause-rows g c = each_from _ (λ j r x h. search rules) c.replace_each.ensures

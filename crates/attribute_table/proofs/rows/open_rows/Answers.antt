@@ -4,4 +4,4 @@ use Rattle.attribute_table.proofs.Each.{each_from}
 use Rattle.attribute_table.proofs.rows.open_rows.Goals as goal
 
 pub returns : goal.returns
-returns g c = each_from _ _ _ (λ j r x h. search rules) c.replace_each.ensures
+returns g c = each_from _ (λ j r x h. search rules) c.replace_each.ensures

@@ -3,21 +3,37 @@ use Rattle.std.proofs.Common.{◌≡◌, ℕ, zero, suc, ◌-◌, ◌≤◌, con
 use Rattle.std.proofs.lemmas.List.{length-take, get_or-take, get_or_append_left, get_or-append_right, get_or-drop, length-append, length-drop}
 use Rattle.std.proofs.lemmas.List.Sums.{sum_by_more}
 use Rattle.equations.specs.Rounds.{members}
+use Rattle.table_model.proofs.Lowest.{never}
 use Rattle.table_model.specs.Rows.{row, is_pending, pending}
-use Rattle.table_model.specs.declared.row.Mark.TheVariants.{Untouched}
+use Rattle.table_model.specs.declared.row.Mark.TheVariants.{Untouched, Pending, Final}
 use Rattle.table_model.specs.declared.row.Row.{Row}
-use Rattle.attribute_table.specs.Effects.{EachRow, EachReplaced}
+use Rattle.attribute_table.specs.Effects.{EachRow, EachReplaced, PendingReplaced, closed_as, closed_row, released_as, released_row}
 use Rattle.attribute_table.specs.Lent.{rows_of}
 
 module _ {V : Type 0} (bot : V) where
-  -- What R relates is what f gives.
-  pub each_from : {R : ℕ → Row V → Row V → Type 0} {f : ℕ → Row V → Row V} {n : ℕ} {before after : List (Row V)} → ((j : ℕ) (r x : Row V) → R j r x → x ≡ f j r) → EachReplaced bot n R before after → EachRow bot n f before after
-  each_from {before = before} {after} gives each =
+  pub each_by : {R Q : ℕ → Row V → Row V → Type 0} {n : ℕ} {before after : List (Row V)} → ((j : ℕ) (r x : Row V) → R j r x → Q j r x) → EachReplaced bot n R before after → EachReplaced bot n Q before after
+  each_by {before = before} {after} gives each =
       record {
         first = λ j l. gives j (rows_of bot before j) (rows_of bot after j) (each.first j l);
         past = each.past;
         length = each.length;
       }
+
+  -- A close and a give-up replace the pending rows.
+  module _ {R : Row V → Row V → Type 0} {r x : Row V} (is : PendingReplaced R r x) where
+    pub closed_by : (R r x → x ≡ row Final r.value) → x ≡ closed_row bot r
+    closed_by final = elim r.mark as (λ m. r.mark ≡ m → x ≡ closed_as bot m r) [
+      | Untouched ↦ λ q. is.kept (λ p. never (cc))
+      | Pending ↦ λ q. final (is.pending q)
+      | Final ↦ λ q. is.kept (λ p. never (cc))
+    ] refl
+
+    pub released_by : (R r x → x ≡ row Untouched bot) → x ≡ released_row bot r
+    released_by released = elim r.mark as (λ m. r.mark ≡ m → x ≡ released_as bot m r) [
+      | Untouched ↦ λ q. is.kept (λ p. never (cc))
+      | Pending ↦ λ q. released (is.pending q)
+      | Final ↦ λ q. is.kept (λ p. never (cc))
+    ] refl
 
   counted : (rows : List (Row V)) (n : ℕ) → n ≤ length rows → count_by (λ r. is_pending r.mark) (take n rows) ≡ members (pending (rows_of bot rows)) n
   counted rows zero l = refl

@@ -1,5 +1,5 @@
 -- What calls do to rows that are lent as a list. Assumes nothing.
-use Rattle.std.specs.Prelude.{◌≡◌, ℕ, ◌<◌, ◌≤◌, Bool, true, false, cond, List, length}
+use Rattle.std.specs.Prelude.{◌≡◌, ℕ, ◌<◌, ◌≤◌, Bool, true, false, cond, List, length, ◌≢◌}
 use Rattle.equations.specs.Equations.{Equations}
 use Rattle.equations.specs.Rounds.{turn, changed, swept, changes, rounds, round_changes, members}
 use Rattle.table_model.specs.Calls.{counted}
@@ -10,6 +10,11 @@ use Rattle.table_model.specs.declared.row.Mark.{Mark}
 use Rattle.table_model.specs.declared.row.Mark.TheVariants.{Untouched, Pending, Final}
 use Rattle.table_model.specs.declared.row.Row.{Row}
 use Rattle.attribute_table.specs.Lent.{rows_of}
+
+-- A pending row is replaced by one that R relates to it; another stays.
+pub record PendingReplaced {V : Type 0} (R : Row V → Row V → Type 0) (before after : Row V) : Type 0 where
+  pub pending : before.mark ≡ Pending → R before after
+  pub kept : (before.mark ≢ Pending) → after ≡ before
 
 module _ {V : Type 0} (bot : V) where
   -- The row with mark m when a session opens, whether its instance is in reach or not.

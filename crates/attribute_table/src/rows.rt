@@ -4,7 +4,7 @@ ghost use Rattle.equations.specs.Equations.{Lawful};
 ghost use Rattle.table_model.specs.Rows.{row, is_pending, values};
 ghost use Rattle.table_model.specs.declared.row.Mark.TheVariants.{Untouched};
 ghost use Rattle.table_model.specs.declared.row.Row.{Row};
-ghost use Rattle.attribute_table.specs.Effects.{opened_row, closed_row, released_row, EachRow, EachReplaced, EvaluatedAt, Evaluated, Iterated, PendingAtBottom};
+ghost use Rattle.attribute_table.specs.Effects.{opened_row, closed_row, released_row, EachRow, EachReplaced, PendingReplaced, EvaluatedAt, Evaluated, Iterated, PendingAtBottom};
 ghost use Rattle.attribute_table.specs.Lent.{rows_of};
 
 use equations::System;
@@ -38,29 +38,6 @@ fn opened<V: Lattice>(before: Row<V>, reached: bool) -> Row<V>
     }
 }
 
-// A row after a close.
-fn closed<V: Lattice>(before: Row<V>) -> Row<V>
-    ensures { result ≡ closed_row V.Lattice.bot before }
-{
-    match before.mark {
-        Mark::Pending => Row {
-            mark: Mark::Final,
-            value: before.value,
-        },
-        Mark::Untouched | Mark::Final => before,
-    }
-}
-
-// A row after a give-up.
-fn released<V: Lattice>(before: Row<V>) -> Row<V>
-    ensures { result ≡ released_row V.Lattice.bot before }
-{
-    match before.mark {
-        Mark::Pending => untouched(),
-        Mark::Untouched | Mark::Final => before,
-    }
-}
-
 // Replaces each row by what `by` makes of its number and it.
 fn replace_each<V: Lattice, F: Fn(usize, Row<V>) -> Row<V>>(rows: &mut [Row<V>], by: F)
     requires { (i : ℕ) (r : Row V) → i < length rows.old → F.pre by i r }
@@ -86,14 +63,32 @@ pub(crate) fn open_rows<V: Lattice>(rows: &mut [Row<V>], marks: &[usize])
     replace_each(rows, |i, row| opened(row, marks[i] == 1));
 }
 
+// Replaces each pending row by what `by` makes of it. Answers how many there were.
+fn replace_pending<V: Lattice, F: Fn(Row<V>) -> Row<V>>(rows: &mut [Row<V>], by: F) -> usize
+    requires { (r : Row V) → F.pre by r }
+    ensures rows { EachReplaced V.Lattice.bot (length rows.old) (λ _. PendingReplaced (F.post by)) rows.old rows.new }
+    ensures count { result ≡ count_by (λ r. is_pending r.mark) rows.old }
+{
+    let count = rows.iter().filter(|row| row.mark == Mark::Pending).count();
+    replace_each(rows, |_, row| match row.mark {
+        Mark::Pending => by(row),
+        Mark::Untouched | Mark::Final => row,
+    });
+    count
+}
+
 // Makes the pending rows final. Answers how many there were.
 pub(crate) fn make_final<V: Lattice>(rows: &mut [Row<V>]) -> usize
     ensures rows { EachRow V.Lattice.bot (length rows.old) (λ _. closed_row V.Lattice.bot) rows.old rows.new }
     ensures count { result ≡ count_by (λ r. is_pending r.mark) rows.old }
 {
-    let count = pending_count(rows);
-    replace_each(rows, |_, row| closed(row));
-    count
+    replace_pending(
+        rows,
+        |row| Row {
+            mark: Mark::Final,
+            value: row.value,
+        },
+    )
 }
 
 // Returns the pending rows to untouched. Answers how many there were.
@@ -101,15 +96,7 @@ pub(crate) fn release<V: Lattice>(rows: &mut [Row<V>]) -> usize
     ensures rows { EachRow V.Lattice.bot (length rows.old) (λ _. released_row V.Lattice.bot) rows.old rows.new }
     ensures count { result ≡ count_by (λ r. is_pending r.mark) rows.old }
 {
-    let count = pending_count(rows);
-    replace_each(rows, |_, row| released(row));
-    count
-}
-
-fn pending_count<V: Lattice>(rows: &[Row<V>]) -> usize
-    ensures { result ≡ count_by (λ r. is_pending r.mark) rows.now }
-{
-    rows.iter().filter(|row| row.mark == Mark::Pending).count()
+    replace_pending(rows, |_| untouched())
 }
 
 // The values in the rows, the bottom past their end.

@@ -1,7 +1,7 @@
 -- Each row is what the closure gives for it.
 use Rattle.std.proofs.Common.{rules}
-use Rattle.attribute_table.proofs.Each.{each_from}
+use Rattle.attribute_table.proofs.Each.{each_by}
 use Rattle.attribute_table.proofs.rows.open_rows.Goals as goal
 
 pub returns : goal.returns
-returns g c = each_from _ (λ j r x h. search rules) c.replace_each.ensures
+returns g c = each_by _ (λ j r x h. search rules) c.replace_each.ensures

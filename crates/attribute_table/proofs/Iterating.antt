@@ -29,7 +29,7 @@ module _ {V : Type 0} (bot : V) (same : V → V → Bool) (e : Equations V) wher
 
 module _ {V : Type 0} {bot : V} {le : V → V → Type 0} {lub : V → V → V} {same : V → V → Bool} {height : ℕ} {rank : V → ℕ} (laws : LatticeLaws bot le lub same height rank) (e : Equations V) where
   -- A round more.
-  module _ {before now after : List (Row V)} {count m n : ℕ} (h : Iterating bot same e before now count) (size : m ≡ e.size) (r : Evaluated bot same e m now after n) where
+  module _ {before now after : List (Row V)} {count n : ℕ} (h : Iterating bot same e before now count) (r : Evaluated bot same e e.size now after n) where
     abbrev s : ℕ → Bool
     s = pending (rows_of bot before)
 
@@ -43,10 +43,10 @@ module _ {V : Type 0} {bot : V} {le : V → V → Type 0} {lub : V → V → V} 
     values_so_far = fun_ext h.worked
 
     values_after : values (rows_of bot after) ≡ rounds e s (suc h.k) w
-    values_after = fun_ext r.worked ∙ (λ d. swept e (pending_kept d) (size d) (values_so_far d))
+    values_after = fun_ext r.worked ∙ (λ d. swept e (pending_kept d) e.size (values_so_far d))
 
     round_counts : n ≡ round_changes same e s h.k w
-    round_counts = r.counts ∙ (λ d. changes same e (pending_kept d) (size d) (values_so_far d))
+    round_counts = r.counts ∙ (λ d. changes same e (pending_kept d) e.size (values_so_far d))
 
     after_marks : SameMarks bot before after
     after_marks j = r.marks j ∙ h.marks j

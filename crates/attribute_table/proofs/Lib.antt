@@ -1,5 +1,4 @@
 pub mod Each
-pub mod Counting
 pub mod Sweeps
 pub mod Iterating
 pub mod RowsAfter

@@ -13,7 +13,6 @@ use Rattle.table_model.specs.declared.row.Mark.TheVariants.{Untouched, Pending, 
 use Rattle.table_model.specs.declared.row.Row.{Row}
 use Rattle.attribute_table.specs.Effects.{opened_as, opened_row, closed_as, closed_row, released_as, released_row, EachRow, Evaluated, Iterated, PendingAtBottom}
 use Rattle.attribute_table.specs.Lent.{rows_of}
-use Rattle.attribute_table.proofs.Counting.{closed_kept, released_kept}
 
 module _ {V : Type 0} where
   row_same : (r x : Row V) → r.mark ≡ x.mark → r.value ≡ x.value → r ≡ x
@@ -27,6 +26,18 @@ module _ {V : Type 0} where
       w
       (λ j n. refl)
       k
+
+-- Closing and releasing leave a row that is not pending.
+module _ {V : Type 0} (bot : V) (r : Row V) where
+  closed_kept : (m : Mark) → (m ≡ Pending → ⊥) → r ≡ closed_as bot m r
+  closed_kept Untouched n = refl
+  closed_kept Pending n = absurd (n refl)
+  closed_kept Final n = refl
+
+  released_kept : (m : Mark) → (m ≡ Pending → ⊥) → r ≡ released_as bot m r
+  released_kept Untouched n = refl
+  released_kept Pending n = absurd (n refl)
+  released_kept Final n = refl
 
 module _ {V : Type 0} (bot : V) where
   opened_reached : (m : Mark) (r : Row V) → (m ≡ Final → ⊥) → opened_as bot m true r ≡ row Pending bot

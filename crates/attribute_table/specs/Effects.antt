@@ -1,7 +1,7 @@
 -- What calls do to rows that are lent as a list. Assumes nothing.
-use Rattle.std.specs.Prelude.{◌≡◌, ℕ, ◌<◌, ◌≤◌, Bool, true, false, List, length}
+use Rattle.std.specs.Prelude.{◌≡◌, ℕ, ◌<◌, ◌≤◌, Bool, true, false, cond, List, length, ◌≢◌}
 use Rattle.equations.specs.Equations.{Equations}
-use Rattle.equations.specs.Rounds.{swept, changes, rounds, round_changes, members}
+use Rattle.equations.specs.Rounds.{turn, changed, swept, changes, rounds, round_changes, members}
 use Rattle.table_model.specs.Calls.{counted}
 use Rattle.table_model.specs.Rows.{row, pending, values}
 use Rattle.table_model.specs.declared.record.State.{State}
@@ -10,6 +10,11 @@ use Rattle.table_model.specs.declared.row.Mark.{Mark}
 use Rattle.table_model.specs.declared.row.Mark.TheVariants.{Untouched, Pending, Final}
 use Rattle.table_model.specs.declared.row.Row.{Row}
 use Rattle.attribute_table.specs.Lent.{rows_of}
+
+-- A pending row is replaced by one that R relates to it; another stays.
+pub record PendingReplaced {V : Type 0} (R : Row V → Row V → Type 0) (before after : Row V) : Type 0 where
+  pub pending : before.mark ≡ Pending → R before after
+  pub kept : (before.mark ≢ Pending) → after ≡ before
 
 module _ {V : Type 0} (bot : V) where
   -- The row with mark m when a session opens, whether its instance is in reach or not.
@@ -41,11 +46,15 @@ module _ {V : Type 0} (bot : V) where
   abbrev pub released_row : Row V → Row V
   released_row r = released_as r.mark r
 
-  -- Each of the first n rows is changed by f, which also gets its number; the others are as they were.
-  pub record EachRow (n : ℕ) (f : ℕ → Row V → Row V) (before after : List (Row V)) : Type 0 where
-    pub first : (j : ℕ) → j < n → rows_of bot after j ≡ f j (rows_of bot before j)
+  -- Each of the first n rows is replaced by one that R relates to its number and to it; the others are as they were.
+  pub record EachReplaced (n : ℕ) (R : ℕ → Row V → Row V → Type 0) (before after : List (Row V)) : Type 0 where
+    pub first : (j : ℕ) → j < n → R j (rows_of bot before j) (rows_of bot after j)
     pub past : (j : ℕ) → n ≤ j → rows_of bot after j ≡ rows_of bot before j
     pub length : length after ≡ length before
+
+  -- Each of the first n rows is changed by f, which also gets its number; the others are as they were.
+  abbrev pub EachRow : ℕ → (ℕ → Row V → Row V) → List (Row V) → List (Row V) → Type 0
+  EachRow n f = EachReplaced n (λ j r x. x ≡ f j r)
 
   -- An evaluation is given up: if the session fits and there are enough rows, the record goes back to idle and the pending rows are released, `count` of them.
   -- Else nothing changes.
@@ -57,6 +66,13 @@ module _ {V : Type 0} (bot : V) where
     pub counts : fits → e.size ≤ length before → count ≡ members (pending (rows_of bot before)) e.size
 
   module _ (same : V → V → Bool) (e : Equations V) where
+    -- Row i took its equation's value, if it is pending; `change` tells whether that is another value.
+    pub record EvaluatedAt (i : ℕ) (before after : List (Row V)) (change : Bool) : Type 0 where
+      pub marks : (j : ℕ) → (rows_of bot after j).mark ≡ (rows_of bot before j).mark
+      pub worked : (j : ℕ) → (rows_of bot after j).value ≡ turn e (pending (rows_of bot before)) i (values (rows_of bot before)) j
+      pub counts : cond change 1 0 ≡ changed same e (pending (rows_of bot before)) i (values (rows_of bot before))
+      pub length : length after ≡ length before
+
     -- The pending rows below n took their equations' values, in ascending number; `count` of them changed.
     pub record Evaluated (n : ℕ) (before after : List (Row V)) (count : ℕ) : Type 0 where
       pub marks : (j : ℕ) → (rows_of bot after j).mark ≡ (rows_of bot before j).mark

@@ -1,33 +1,25 @@
 // What calls do to the rows.
-ghost use Rattle.std.specs.Prelude.{◌≡◌, ℕ, ◌<◌, ◌≤◌, length, if◌then◌else◌, ◌==◌, slice_index};
-ghost use Rattle.equations.specs.Equations.{equation};
-ghost use Rattle.equations.specs.Rounds.{turn, changed, members};
-ghost use Rattle.table_model.specs.Rows.{row, pending, values};
+ghost use Rattle.std.specs.Prelude.{◌≡◌, ℕ, ◌<◌, ◌≤◌, length, count_by, ◌==◌, slice_index};
+ghost use Rattle.equations.specs.Equations.{Lawful};
+ghost use Rattle.table_model.specs.Rows.{row, is_pending, values};
 ghost use Rattle.table_model.specs.declared.row.Mark.TheVariants.{Untouched};
-ghost use Rattle.attribute_table.specs.Effects.{opened_row, closed_row, released_row, EachRow, Evaluated, Iterated, PendingAtBottom};
+ghost use Rattle.table_model.specs.declared.row.Row.{Row};
+ghost use Rattle.attribute_table.specs.Effects.{opened_row, closed_row, released_row, EachRow, EachReplaced, PendingReplaced, EvaluatedAt, Evaluated, Iterated, PendingAtBottom};
 ghost use Rattle.attribute_table.specs.Lent.{rows_of};
 
 use equations::System;
+use equations::family::Family;
+use equations::work::equation_value;
 use lattices::Lattice;
 use table_model::row::{Mark, Row};
 
 // The row of an instance that nobody asked for.
-pub(crate) fn untouched<V: Lattice>() -> Row<V>
+fn untouched<V: Lattice>() -> Row<V>
     ensures { result ≡ row Untouched V.Lattice.bot }
 {
     Row {
         mark: Mark::Untouched,
         value: V::bottom(),
-    }
-}
-
-// A new table's rows.
-pub(crate) fn clear<V: Lattice>(rows: &mut [Row<V>], size: usize)
-    requires { size ≤ length rows.old }
-    ensures { EachRow V.Lattice.bot size (λ _ _. row Untouched V.Lattice.bot) rows.old rows.new }
-{
-    for i in 0..size {
-        rows[i] = untouched();
     }
 }
 
@@ -46,60 +38,104 @@ fn opened<V: Lattice>(before: Row<V>, reached: bool) -> Row<V>
     }
 }
 
-// Makes the marked rows pending that are not final, and releases any other.
-pub(crate) fn open_rows<V: Lattice>(rows: &mut [Row<V>], marks: &[usize], size: usize)
-    requires { (size ≤ length rows.old) × (size ≤ length marks.now) }
-    ensures { EachRow V.Lattice.bot size (λ j. opened_row V.Lattice.bot (slice_index marks.now j == 1)) rows.old rows.new }
+// Replaces each row by what `by` makes of its number and it.
+fn replace_each<V: Lattice, F: Fn(usize, Row<V>) -> Row<V>>(rows: &mut [Row<V>], by: F)
+    requires { (i : ℕ) (r : Row V) → i < length rows.old → F.pre by i r }
+    ensures { EachReplaced V.Lattice.bot (length rows.old) (F.post by) rows.old rows.new }
 {
-    for i in 0..size {
-        rows[i] = opened(rows[i], marks[i] == 1);
+    for (i, row) in rows.iter_mut().enumerate() {
+        *row = by(i, *row);
     }
 }
 
-// The value of the equation of `instance` over the values in the rows.
-fn equation_value<S: System>(system: &S, rows: &[Row<S::Value>], instance: usize) -> S::Value
-    requires { (S.System.equations system.now).size ≤ length rows.now }
-    ensures { result ≡ equation (S.System.equations system.now) (values (rows_of S.Value.Lattice.bot rows.now)) instance }
+// A new table's rows.
+pub(crate) fn clear<V: Lattice>(rows: &mut [Row<V>])
+    ensures { EachRow V.Lattice.bot (length rows.old) (λ _ _. row Untouched V.Lattice.bot) rows.old rows.new }
 {
-    let mut so_far = system.start(instance);
-    for k in 0..system.operand_count(instance) {
-        if let Ok(j) = system.operand(instance, k) {
-            let row = rows[j];
-            so_far = system.step(instance, k, so_far, row.value);
-        }
+    replace_each(rows, |_, _| untouched());
+}
+
+// Makes the marked rows pending that are not final, and releases any other.
+pub(crate) fn open_rows<V: Lattice>(rows: &mut [Row<V>], marks: &[usize])
+    requires { length rows.old ≤ length marks.now }
+    ensures { EachRow V.Lattice.bot (length rows.old) (λ j. opened_row V.Lattice.bot (slice_index marks.now j == 1)) rows.old rows.new }
+{
+    replace_each(rows, |i, row| opened(row, marks[i] == 1));
+}
+
+// Replaces each pending row by what `by` makes of it. Answers how many there were.
+fn replace_pending<V: Lattice, F: Fn(Row<V>) -> Row<V>>(rows: &mut [Row<V>], by: F) -> usize
+    requires { (r : Row V) → F.pre by r }
+    ensures rows { EachReplaced V.Lattice.bot (length rows.old) (λ _. PendingReplaced (F.post by)) rows.old rows.new }
+    ensures count { result ≡ count_by (λ r. is_pending r.mark) rows.old }
+{
+    let count = rows.iter().filter(|row| row.mark == Mark::Pending).count();
+    replace_each(rows, |_, row| match row.mark {
+        Mark::Pending => by(row),
+        Mark::Untouched | Mark::Final => row,
+    });
+    count
+}
+
+// Makes the pending rows final. Answers how many there were.
+pub(crate) fn make_final<V: Lattice>(rows: &mut [Row<V>]) -> usize
+    ensures rows { EachRow V.Lattice.bot (length rows.old) (λ _. closed_row V.Lattice.bot) rows.old rows.new }
+    ensures count { result ≡ count_by (λ r. is_pending r.mark) rows.old }
+{
+    replace_pending(
+        rows,
+        |row| Row {
+            mark: Mark::Final,
+            value: row.value,
+        },
+    )
+}
+
+// Returns the pending rows to untouched. Answers how many there were.
+pub(crate) fn release<V: Lattice>(rows: &mut [Row<V>]) -> usize
+    ensures rows { EachRow V.Lattice.bot (length rows.old) (λ _. released_row V.Lattice.bot) rows.old rows.new }
+    ensures count { result ≡ count_by (λ r. is_pending r.mark) rows.old }
+{
+    replace_pending(rows, |_| untouched())
+}
+
+// The values in the rows, the bottom past their end.
+#[derive(Clone, Copy)]
+struct RowValues<'a, V> {
+    rows: &'a [Row<V>],
+}
+
+impl<V: Lattice> Family<V> for RowValues<'_, V> {
+    ghost value = { λ s. values (rows_of V.Lattice.bot s.rows.now) };
+
+    fn value(&self, instance: usize) -> V {
+        self.rows.get(instance).map_or(V::bottom(), |row| row.value)
     }
-    so_far
 }
 
 // Gives a pending row its equation's value. Tells whether that is another value.
 fn evaluate<S: System>(system: &S, rows: &mut [Row<S::Value>], instance: usize) -> bool
-    requires { ((S.System.equations system.now).size ≤ length rows.old) × (instance < (S.System.equations system.now).size) }
-    ensures marks { (j : ℕ) → (rows_of S.Value.Lattice.bot rows.new j).mark ≡ (rows_of S.Value.Lattice.bot rows.old j).mark }
-    ensures worked { (j : ℕ) → (rows_of S.Value.Lattice.bot rows.new j).value ≡ turn (S.System.equations system.now) (pending (rows_of S.Value.Lattice.bot rows.old)) instance (values (rows_of S.Value.Lattice.bot rows.old)) j }
-    ensures counts { (if result then 1 else 0) ≡ changed S.Value.Lattice.same (S.System.equations system.now) (pending (rows_of S.Value.Lattice.bot rows.old)) instance (values (rows_of S.Value.Lattice.bot rows.old)) }
-    ensures length { length rows.new ≡ length rows.old }
+    ensures { EvaluatedAt S.Value.Lattice.bot S.Value.Lattice.same (S.System.equations system.now) instance rows.old rows.new result }
 {
-    let row = rows[instance];
-    match row.mark {
-        Mark::Pending => {
-            let value = equation_value(system, rows, instance);
+    match rows.get(instance) {
+        Some(&row) if row.mark == Mark::Pending => {
+            let value = equation_value(system, &RowValues { rows }, instance);
             rows[instance] = Row {
                 mark: row.mark,
                 value,
             };
             !value.equal(row.value)
         }
-        Mark::Untouched | Mark::Final => false,
+        _ => false,
     }
 }
 
-// Gives each pending row below `size` its equation's value, in ascending number. Answers how many values changed.
-fn evaluate_below<S: System>(system: &S, rows: &mut [Row<S::Value>], size: usize) -> usize
-    requires { ((S.System.equations system.now).size ≤ length rows.old) × (size ≤ (S.System.equations system.now).size) }
-    ensures { Evaluated S.Value.Lattice.bot S.Value.Lattice.same (S.System.equations system.now) size rows.old rows.new result }
+// Gives each pending row its equation's value, in ascending number. Answers how many values changed.
+pub(crate) fn evaluate_all<S: System>(system: &S, rows: &mut [Row<S::Value>]) -> usize
+    ensures { Evaluated S.Value.Lattice.bot S.Value.Lattice.same (S.System.equations system.now) (S.System.equations system.now).size rows.old rows.new result }
 {
     let mut changed = 0;
-    for instance in 0..size {
+    for instance in 0..system.size() {
         if evaluate(system, rows, instance) {
             changed += 1;
         }
@@ -107,61 +143,15 @@ fn evaluate_below<S: System>(system: &S, rows: &mut [Row<S::Value>], size: usize
     changed
 }
 
-// Gives each pending row its equation's value, in ascending number. Answers how many values changed.
-pub(crate) fn evaluate_all<S: System>(system: &S, rows: &mut [Row<S::Value>]) -> usize
-    requires { (S.System.equations system.now).size ≤ length rows.old }
-    ensures { Evaluated S.Value.Lattice.bot S.Value.Lattice.same (S.System.equations system.now) (S.System.equations system.now).size rows.old rows.new result }
-{
-    let size = system.size();
-    evaluate_below(system, rows, size)
-}
-
 // Rounds until one changes nothing. Answers how many, that one too.
 pub(crate) fn iterate<S: System>(system: &S, rows: &mut [Row<S::Value>]) -> u32
-    requires { ((S.System.equations system.now).size ≤ length rows.old) × PendingAtBottom S.Value.Lattice.bot S.Value.Lattice.same (S.System.equations system.now) rows.old }
+    requires lawful { Lawful S.Value.Lattice.bot S.Value.Lattice.le (S.System.equations system.now) }
+    requires bottom { PendingAtBottom S.Value.Lattice.bot S.Value.Lattice.same (S.System.equations system.now) rows.old }
     ensures { Iterated S.Value.Lattice.bot S.Value.Lattice.same (S.System.equations system.now) rows.old rows.new result }
 {
-    let size = system.size();
     let mut rounds: u32 = 1;
-    while evaluate_below(system, rows, size) != 0 {
+    while evaluate_all(system, rows) != 0 {
         rounds = rounds.saturating_add(1);
     }
     rounds
-}
-
-// Makes the pending rows final. Answers how many there were.
-pub(crate) fn make_final<V: Lattice>(rows: &mut [Row<V>], size: usize) -> usize
-    requires { size ≤ length rows.old }
-    ensures rows { EachRow V.Lattice.bot size (λ _. closed_row V.Lattice.bot) rows.old rows.new }
-    ensures count { result ≡ members (pending (rows_of V.Lattice.bot rows.old)) size }
-{
-    let mut count = 0;
-    for i in 0..size {
-        let row = rows[i];
-        if let Mark::Pending = row.mark {
-            rows[i] = Row {
-                mark: Mark::Final,
-                value: row.value,
-            };
-            count += 1;
-        }
-    }
-    count
-}
-
-// Returns the pending rows to untouched. Answers how many there were.
-pub(crate) fn release<V: Lattice>(rows: &mut [Row<V>], size: usize) -> usize
-    requires { size ≤ length rows.old }
-    ensures rows { EachRow V.Lattice.bot size (λ _. released_row V.Lattice.bot) rows.old rows.new }
-    ensures count { result ≡ members (pending (rows_of V.Lattice.bot rows.old)) size }
-{
-    let mut count = 0;
-    for i in 0..size {
-        let row = rows[i];
-        if let Mark::Pending = row.mark {
-            rows[i] = untouched();
-            count += 1;
-        }
-    }
-    count
 }

@@ -35,7 +35,7 @@ impl Table {
         if size > rows.len() {
             return Err(TableFault::TooShort);
         }
-        rows::clear(rows, size);
+        rows::clear(&mut rows[..size]);
         Ok(Table { state: State::Idle })
     }
 
@@ -65,7 +65,7 @@ impl Table {
                     return Err(TableFault::AlreadyFinal);
                 }
                 reach(system, work, instance)?;
-                rows::open_rows(rows, work, size);
+                rows::open_rows(&mut rows[..size], work);
                 self.state = State::Iterating(Evaluation {
                     instance,
                     rounds: 0,
@@ -137,7 +137,7 @@ impl Table {
                 self.state = State::Idle;
                 let row = rows[session.spend()];
                 let value = row.value;
-                let made_final = rows::make_final(rows, size);
+                let made_final = rows::make_final(&mut rows[..size]);
                 Ok(Closed {
                     answer: Answer {
                         value,
@@ -195,7 +195,7 @@ impl Table {
             return 0;
         }
         self.state = State::Idle;
-        rows::release(rows, size)
+        rows::release(&mut rows[..size])
     }
 
     // Opens a session at an instance, rounds until it is settled, and closes it.
@@ -228,11 +228,11 @@ impl Table {
             });
         }
         reach(system, work, instance)?;
-        rows::open_rows(rows, work, size);
+        rows::open_rows(&mut rows[..size], work);
         let rounds = rows::iterate(system, rows);
         let row = rows[instance];
         let value = row.value;
-        let made_final = rows::make_final(rows, size);
+        let made_final = rows::make_final(&mut rows[..size]);
         Ok(Answer {
             value,
             made_final,

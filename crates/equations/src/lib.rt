@@ -7,6 +7,7 @@ ghost use Rattle.equations.specs.Equations.{Equations, Lawful};
 use lattices::Lattice;
 use references::Dangling;
 
+pub mod family;
 pub mod work;
 
 // Equations over the values of a lattice, for instances numbered from 0.

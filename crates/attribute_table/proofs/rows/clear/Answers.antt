@@ -1,7 +1,7 @@
--- A turn writes one row more.
-use Rattle.std.proofs.Common.{arith}
-use Rattle.attribute_table.proofs.Each.{each_written}
+-- Each row is what the closure gives for it.
+use Rattle.std.proofs.Common.{rules}
+use Rattle.attribute_table.proofs.Each.{each_by}
 use Rattle.attribute_table.proofs.rows.clear.Goals as goal
 
-pub loop-i-preserved : goal.loop-i-preserved
-loop-i-preserved g c = each_written _ _ _ _ _ c.loop-i.invariant _ (omega arith) c.untouched.ensures
+pub returns : goal.returns
+returns g c = each_by _ (λ j r x h. search rules) c.replace_each.ensures

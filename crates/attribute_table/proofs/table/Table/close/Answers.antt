@@ -1,14 +1,13 @@
 -- The session fits the record, or it does not.
 use Rattle.std.proofs.Common.{refl, ap, ◌∙◌, arith}
 use Rattle.std.proofs.lemmas.List.{get_or_read}
-use Rattle.equations.specs.Rounds.{members}
 use Rattle.table_model.specs.Calls.{evaluation}
-use Rattle.table_model.specs.Rows.{row, pending}
+use Rattle.table_model.specs.Rows.{row}
 use Rattle.table_model.specs.Steps.{close_none, close_unfit}
 use Rattle.table_model.specs.declared.row.Mark.TheVariants.{Untouched}
 use Rattle.attribute_table.specs.Lent.{rows_of}
 use Rattle.attribute_table.proofs.Calls.{kept}
-use Rattle.attribute_table.proofs.Each.{each_of}
+use Rattle.attribute_table.proofs.Each.{each_lent, counts_lent}
 use Rattle.attribute_table.proofs.Outcomes.{another_settled, close_of_settled}
 use Rattle.attribute_table.proofs.table.Table.close.Goals as goal
 
@@ -31,7 +30,7 @@ returns-else-settled-instance g c =
     let read = get_or_read rows c.spend.result c.index-rows-spend.result (omega arith) c.index-rows-spend.is (row Untouched bot) in
     record {
       call = close_of_settled (omega arith) c.in-Settled-default.settled c.if-settled-instance.false c.in-Settled-default.is-0 (omega arith) c.index-rows-spend.result
-          (read ∙ ap (rows_of bot rows) c.spend.ensures) (each_of size closes.rows) (closes.count ∙ ap (members (pending (rows_of bot rows))) size);
+          (read ∙ ap (rows_of bot rows) c.spend.ensures) (each_lent bot size _ (omega arith) closes.rows) (counts_lent bot size rows (omega arith) closes.count);
       session = tt;
     }
 

@@ -1,13 +1,11 @@
 -- The checks in their order, then the search of the reach, rounds and a close.
-use Rattle.std.proofs.Common.{◌<◌, length, refl, ap, ◌∙◌, arith, rules}
+use Rattle.std.proofs.Common.{◌<◌, length, refl, arith, rules}
 use Rattle.std.proofs.lemmas.List.{get_or_read}
 use Rattle.std.proofs.lemmas.Result.{err_from_is_err_and}
-use Rattle.equations.specs.Rounds.{members}
-use Rattle.table_model.specs.Rows.{pending}
+use Rattle.equations.proofs.Monotone.{lawful_by}
 use Rattle.table_model.specs.Steps.{demand_busy, demand_none}
-use Rattle.attribute_table.specs.Lent.{rows_of}
 use Rattle.attribute_table.proofs.Calls.{kept}
-use Rattle.attribute_table.proofs.Each.{each_of}
+use Rattle.attribute_table.proofs.Each.{each_lent, counts_lent}
 use Rattle.attribute_table.proofs.Outcomes.{demand_of_final, demand_of_dangling, demand_of_whole}
 use Rattle.attribute_table.proofs.RowsAfter.{pending_at_bottom}
 use Rattle.attribute_table.proofs.table.Table.demand.Goals as goal
@@ -40,8 +38,11 @@ offset_bounds-rows-instance-2 g c = let l : c.args.instance < length c.args.rows
 pub iterate-rounds-requires : goal.iterate-rounds-requires
 iterate-rounds-requires g c =
     let e = g.S.System.equations c.args.system.now in
-    let opens = each_of c.size-size.ensures.size c.open_rows.ensures in
-    (omega arith, pending_at_bottom g.S.Value.Lattice.bot e g.S.Value.Lattice.same c.reach.new.work opens)
+    let opens = each_lent _ c.size-size.ensures.size _ (omega arith) c.open_rows.ensures in
+    record {
+      lawful = lawful_by c.size-size.ensures.bottom c.size-size.ensures.order (g.S.System.lawful c.args.system.now);
+      bottom = pending_at_bottom g.S.Value.Lattice.bot e g.S.Value.Lattice.same c.reach.new.work opens;
+    }
 
 pub returns : goal.returns
 returns g c =
@@ -55,7 +56,7 @@ returns g c =
     let ends = get_or_read ended c.args.instance x (omega (arith, c.open_rows.ensures.length, c.iterate-rounds.ensures.length)) c.index-rows-instance-2.is in
     record {
       call = demand_of_whole (omega arith, omega arith) (omega arith) r (read _) c.in-Idle.is c.in_default-mark.not-Final (c.reach.ensures.tells (omega arith) (omega arith)) _ c.in_ok-reach.was
-          c.reach.new.work (c.reach.ensures.marks (omega arith) (omega arith)) (each_of size c.open_rows.ensures)
-          c.iterate-rounds.ensures (each_of size closes.rows) x (ends _) (closes.count ∙ ap (members (pending (rows_of bot ended))) size);
+          c.reach.new.work (c.reach.ensures.marks (omega arith) (omega arith)) (each_lent bot size _ (omega arith) c.open_rows.ensures)
+          c.iterate-rounds.ensures (each_lent bot size _ (omega arith) closes.rows) x (ends _) (counts_lent bot size ended (omega arith) closes.count);
       work = c.reach.ensures.length;
     }

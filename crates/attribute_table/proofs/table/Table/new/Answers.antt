@@ -6,7 +6,7 @@ use Rattle.equations.proofs.Monotone.{lawful_by}
 use Rattle.table_model.specs.Laws.{TableLaws}
 use Rattle.table_model.proofs.All.{table_laws_by}
 use Rattle.table_model.proofs.Determined.{calls_are_determined}
-use Rattle.attribute_table.proofs.Each.{each_of}
+use Rattle.attribute_table.proofs.Each.{each_lent}
 use Rattle.attribute_table.proofs.Outcomes.{not_made_too_high, not_made_too_short, made_new}
 use Rattle.attribute_table.proofs.table.Table.new.Goals as goal
 
@@ -31,6 +31,6 @@ returns-then-size-rows g c =
 pub returns : goal.returns
 returns g c =
     record {
-      made = made_new (omega arith) (omega arith) (each_of c.size-size.ensures.size c.clear.ensures);
+      made = made_new (omega arith) (omega arith) (each_lent _ c.size-size.ensures.size _ (omega arith) c.clear.ensures);
       laws = laws_hold g.S.Value.Lattice.laws _ c.size-size.ensures.bottom c.size-size.ensures.order (g.S.System.lawful c.args.system.now);
     }

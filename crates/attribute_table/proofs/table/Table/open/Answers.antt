@@ -4,7 +4,7 @@ use Rattle.std.proofs.lemmas.List.{get_or_read}
 use Rattle.std.proofs.lemmas.Result.{err_from_is_err_and}
 use Rattle.table_model.specs.Steps.{open_busy, open_none}
 use Rattle.attribute_table.proofs.Calls.{kept}
-use Rattle.attribute_table.proofs.Each.{each_of}
+use Rattle.attribute_table.proofs.Each.{each_lent}
 use Rattle.attribute_table.proofs.Outcomes.{busy, open_of_final, open_of_dangling, open_of_whole}
 use Rattle.attribute_table.proofs.table.Table.open.Goals as goal
 
@@ -40,7 +40,7 @@ returns-in_ok-reach-in-Idle g c =
     let most = (g.S.System.lawful c.args.system.now).size_within in
     record {
       call = open_of_whole (omega arith, omega arith) (omega arith) r (read _) c.in-Idle.is c.in_default.not-Final (c.reach.ensures.tells (omega arith) (omega arith)) _ c.in_ok-reach-in-Idle.was
-          c.reach.new.work (c.reach.ensures.marks (omega arith) (omega arith)) (each_of c.size-size.ensures.size c.open_rows.ensures);
+          c.reach.new.work (c.reach.ensures.marks (omega arith) (omega arith)) (each_lent _ c.size-size.ensures.size _ (omega arith) c.open_rows.ensures);
       session = (refl, omega (arith, most, c.size-size.ensures.size));
       work = c.reach.ensures.length;
     }

@@ -1,0 +1,7 @@
+-- Each row is what the closure gives for it.
+use Rattle.std.proofs.Common.{rules}
+use Rattle.attribute_table.proofs.Each.{each_by}
+use Rattle.attribute_table.proofs.rows.replace_pending.Goals as goal
+
+pub returns-clause-rows : goal.returns-clause-rows
+returns-clause-rows g c = each_by _ (λ j r x h. search rules) c.replace_each.ensures

@@ -1,11 +1,9 @@
 -- What calls do to rows that are lent as a list. Assumes nothing.
 use Rattle.std.specs.Prelude.{◌≡◌, ℕ, ◌<◌, ◌≤◌, Bool, true, false, List, length}
 use Rattle.equations.specs.Equations.{Equations}
-use Rattle.equations.specs.Rounds.{swept, changes, rounds, round_changes, members}
+use Rattle.equations.specs.Rounds.{swept, changes, rounds, round_changes}
 use Rattle.table_model.specs.Calls.{counted}
 use Rattle.table_model.specs.Rows.{row, pending, values}
-use Rattle.table_model.specs.declared.record.State.{State}
-use Rattle.table_model.specs.declared.record.State.TheVariants.{Idle}
 use Rattle.table_model.specs.declared.row.Mark.{Mark}
 use Rattle.table_model.specs.declared.row.Mark.TheVariants.{Untouched, Pending, Final}
 use Rattle.table_model.specs.declared.row.Row.{Row}
@@ -46,15 +44,6 @@ module _ {V : Type 0} (bot : V) where
     pub first : (j : ℕ) → j < n → rows_of bot after j ≡ f j (rows_of bot before j)
     pub past : (j : ℕ) → n ≤ j → rows_of bot after j ≡ rows_of bot before j
     pub length : length after ≡ length before
-
-  -- An evaluation is given up: if the session fits and there are enough rows, the record goes back to idle and the pending rows are released, `count` of them.
-  -- Else nothing changes.
-  pub record GivenUp (e : Equations V) (fits : Type 0) (s : State) (before : List (Row V)) (count : ℕ) (t : State) (after : List (Row V)) : Type 0 where
-    pub unfit : (fits → ⊥) → (count ≡ 0) × (t ≡ s) × (after ≡ before)
-    pub too_short : length before < e.size → (count ≡ 0) × (t ≡ s) × (after ≡ before)
-    pub idle : fits → e.size ≤ length before → t ≡ Idle
-    pub rows : fits → e.size ≤ length before → EachRow e.size (λ _. released_row) before after
-    pub counts : fits → e.size ≤ length before → count ≡ members (pending (rows_of bot before)) e.size
 
   module _ (same : V → V → Bool) (e : Equations V) where
     -- The pending rows below n took their equations' values, in ascending number; `count` of them changed.

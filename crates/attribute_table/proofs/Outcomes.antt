@@ -1,16 +1,16 @@
 -- What each outcome of a call comes to. Assumes nothing.
-use Rattle.std.proofs.Common.{◌≡◌, ℕ, ◌<◌, ◌≤◌, Bool, cond, eqb, ◌⊎◌, List, length, get_or, Ok, Err, Result, sym, refl, ap, ◌∙◌, subst, subst₂, ⊎_elim, arith}
-use mathlib.Core.Path.{subst⁻¹, subst₃}
-use Rattle.std.proofs.lemmas.Bool.{ne_eqb, cases_eq, cases_lt}
+use Rattle.std.proofs.Common.{◌≡◌, ℕ, ◌<◌, ◌≤◌, Bool, true, false, cond, eqb, ◌⊎◌, List, length, get_or, Ok, Err, Result, sym, refl, ap, ◌∙◌, subst, subst₂, ⊎_elim, arith}
+use mathlib.Core.Path.{subst⁻¹}
+use Rattle.std.proofs.lemmas.Bool.{false≢true, eqb-true, eq-eqb, ne_eqb}
 use Rattle.equations.specs.Equations.{Equations}
 use Rattle.equations.specs.Reach.{Whole}
 use Rattle.equations.specs.Rounds.{members}
 use Rattle.reach_search.specs.Searched.{MarksReach, TellsWhole, whole, dangling}
 use Rattle.table_model.proofs.Lowest.{never}
 use Rattle.table_model.specs.Calls as calls
-use Rattle.table_model.specs.Calls.{Call, open_at, round_of, close_of, give_up_open, give_up_settled, demand_at, read_at, Answer, refused, opened, rounded, closed, gave_up, demanded, valued, evaluation, counted, LowestDangling}
-use Rattle.table_model.specs.Rows.{row, pending, Released, pending_count}
-use Rattle.table_model.specs.Steps.{Step, Worked, table, round_state, open_final, open_dangling, open_done, round_done, close_done, give_open, give_open_unfit, give_settled, give_settled_unfit, demand_final, demand_dangling, demand_done, read_not, read_done}
+use Rattle.table_model.specs.Calls.{Call, open_at, round_of, close_of, demand_at, read_at, Answer, refused, opened, rounded, closed, gave_up, demanded, valued, evaluation, counted, LowestDangling}
+use Rattle.table_model.specs.Rows.{Rows, row, pending, Released, pending_count}
+use Rattle.table_model.specs.Steps.{Step, FitsOpen, FitsSettled, Worked, table, round_state, open_final, open_dangling, open_done, round_done, close_done, give_open, give_open_unfit, give_settled, give_settled_unfit, demand_final, demand_dangling, demand_done, read_not, read_done}
 use Rattle.table_model.specs.declared.fault.DanglingOperand.{DanglingOperand}
 use Rattle.table_model.specs.declared.fault.TableFault.{TableFault}
 use Rattle.table_model.specs.declared.fault.TableFault.TheVariants as fault
@@ -20,8 +20,9 @@ use Rattle.table_model.specs.declared.record.State.TheVariants.{Idle, Iterating,
 use Rattle.table_model.specs.declared.row.Mark.{Mark}
 use Rattle.table_model.specs.declared.row.Mark.TheVariants.{Untouched, Pending, Final}
 use Rattle.table_model.specs.declared.row.Row.{Row}
-use Rattle.attribute_table.specs.Effects.{opened_row, closed_row, EachRow, Evaluated, Iterated, GivenUp}
+use Rattle.attribute_table.specs.Effects.{opened_row, closed_row, released_row, EachRow, Evaluated, Iterated}
 use Rattle.attribute_table.specs.Lent.{rows_of, EnoughRows, Called, Made}
+use Rattle.attribute_table.specs.Phases.{SessionPhase, iterating, settled, fits_in, give_up_in}
 use Rattle.attribute_table.proofs.Calls.{drop_same, kept, altered}
 use Rattle.attribute_table.proofs.RowsAfter.{rows_opened, closed_rows, released_rows, rounded_rows, evaluated_past, iterated_past}
 use Rattle.attribute_table.proofs.Sweeps.{pending_same}
@@ -162,54 +163,46 @@ module _ {V : Type 0} {bot : V} {same : V → V → Bool} {e : Equations V} {eno
         subst₂ (λ z n. Called bot same e enough short s rows (close_of i) (closed (result z.value n x.rounds)) Idle after) (sym reads) (sym counts)
         (altered lent (λ f a. never (cc)) closes.length closes.past (close_done l (fits Settled is at) (closed_rows bot e closes)))
 
--- A give-up of a session at i that spends as j, at an evaluation of j or of another instance.
-module _ {V : Type 0} {bot : V} {same : V → V → Bool} {e : Equations V} {s t : State} {rows after : List (Row V)} {count : ℕ} (x : Evaluation) {i j : ℕ} (spent : j ≡ i) (done : GivenUp bot e (x.instance ≡ j) s rows count t after) where
-  given_up : (c : Call) →
-      (x.instance ≡ j → Released bot e (rows_of bot rows) (rows_of bot after) →
-      Step bot same e s (rows_of bot rows) c (gave_up (pending_count bot e (rows_of bot rows))) (table Idle (rows_of bot after))) →
-      ((x.instance ≡ j → ⊥) → Step bot same e s (rows_of bot rows) c (gave_up 0) (table s (rows_of bot rows))) →
-      Called bot same e (EnoughRows e rows) (gave_up 0) s rows c (gave_up count) t after
-  given_up c gives unfit =
-      ⊎_elim
-      (λ short. let none = done.too_short short in record {
-        too_short = λ _. (ap gave_up none.0, none.1, none.2);
-        steps = λ lent. absurd (omega (arith, short, lent));
-        refusal = λ f a. absurd (never (cc));
-      })
-      (λ lent.
-      ⊎_elim
-      (λ at.
-      let rows-after = done.rows at lent in
-      subst₂ (λ n u. Called bot same e (EnoughRows e rows) (gave_up 0) s rows c (gave_up n) u after) (sym (done.counts at lent)) (sym (done.idle at lent))
-      (altered lent (λ f a. never (cc)) rows-after.length rows-after.past (gives at (released_rows bot e rows-after))))
-      (λ other.
-      let none = done.unfit other in
-      subst₃ (λ n u l. Called bot same e (EnoughRows e rows) (gave_up 0) s rows c (gave_up n) u l) (sym none.0) (sym none.1) (sym none.2)
-      (kept lent (unfit other)))
-      (cases_eq x.instance j))
-      (cases_lt (length rows) e.size)
+-- A session at i in the phase p fits the record, or it does not.
+fits_iterating : (s : State) (i : ℕ) → fits_in iterating s i ≡ true → (k : ℕ) × FitsOpen s i k
+fits_iterating Idle i q = absurd (false≢true q)
+fits_iterating (Iterating x) i q = (x.rounds, fits Iterating refl (eqb-true x.instance i q))
+fits_iterating (Settled x) i q = absurd (false≢true q)
 
-  pub open_given_up : s ≡ Iterating x → Called bot same e (EnoughRows e rows) (gave_up 0) s rows (give_up_open i) (gave_up count) t after
-  open_given_up is = given_up (give_up_open i) (λ at r. give_open (fits Iterating is (at ∙ spent)) r) (λ other. give_open_unfit (another_open s x i is (λ at. other (at ∙ sym spent))))
+fits_settled : (s : State) (i : ℕ) → fits_in settled s i ≡ true → (k : ℕ) × FitsSettled s i k
+fits_settled Idle i q = absurd (false≢true q)
+fits_settled (Iterating x) i q = absurd (false≢true q)
+fits_settled (Settled x) i q = (x.rounds, fits Settled refl (eqb-true x.instance i q))
 
-  pub settled_given_up : s ≡ Settled x → Called bot same e (EnoughRows e rows) (gave_up 0) s rows (give_up_settled i) (gave_up count) t after
-  settled_given_up is = given_up (give_up_settled i) (λ at r. give_settled (fits Settled is (at ∙ spent)) r) (λ other. give_settled_unfit (another_settled s x i is (λ at. other (at ∙ sym spent))))
+unfit_by : (p : SessionPhase) {s t : State} (i : ℕ) → fits_in p s i ≡ false → fits_in p t i ≡ eqb i i → s ≡ t → ⊥
+unfit_by p {s} {t} i unfit at is = false≢true (sym unfit ∙ ap (λ z. fits_in p z i) is ∙ at ∙ eq-eqb i i refl)
 
--- A give-up at a record in another state changes nothing.
-module _ {V : Type 0} {bot : V} {same : V → V → Bool} {e : Equations V} {s : State} {rows : List (Row V)} where
-  not_given_up : {c : Call} → Step bot same e s (rows_of bot rows) c (gave_up 0) (table s (rows_of bot rows)) → Called bot same e (EnoughRows e rows) (gave_up 0) s rows c (gave_up 0) s rows
-  not_given_up step =
+module _ {V : Type 0} {bot : V} {same : V → V → Bool} {e : Equations V} (s : State) {before : Rows V} (i : ℕ) where
+  gives : (p : SessionPhase) {after : Rows V} → fits_in p s i ≡ true → Released bot e before after →
+      Step bot same e s before (give_up_in p i) (gave_up (pending_count bot e before)) (table Idle after)
+  gives iterating q released = let w = fits_iterating s i q in give_open w.1 released
+  gives settled q released = let w = fits_settled s i q in give_settled w.1 released
+
+  gives_none : (p : SessionPhase) → fits_in p s i ≡ false → Step bot same e s before (give_up_in p i) (gave_up 0) (table s before)
+  gives_none iterating q = give_open_unfit (λ k. unfit_by iterating i q refl)
+  gives_none settled q = give_settled_unfit (λ k. unfit_by settled i q refl)
+
+-- A give-up of a session at i in the phase p.
+module _ {V : Type 0} {bot : V} {same : V → V → Bool} {e : Equations V} {s : State} {rows : List (Row V)} (p : SessionPhase) (i : ℕ) where
+  pub given_up : EnoughRows e rows → fits_in p s i ≡ true →
+      {after : List (Row V)} → EachRow bot e.size (λ _. released_row bot) rows after → {count : ℕ} → count ≡ members (pending (rows_of bot rows)) e.size →
+      Called bot same e (EnoughRows e rows) (gave_up 0) s rows (give_up_in p i) (gave_up count) Idle after
+  given_up lent q {after} releases counts =
+      subst⁻¹ (λ n. Called bot same e (EnoughRows e rows) (gave_up 0) s rows (give_up_in p i) (gave_up n) Idle after) counts
+      (altered lent (λ f a. never (cc)) releases.length releases.past (gives s i p q (released_rows bot e releases)))
+
+  pub not_given_up : (EnoughRows e rows → fits_in p s i ≡ false) → Called bot same e (EnoughRows e rows) (gave_up 0) s rows (give_up_in p i) (gave_up 0) s rows
+  not_given_up unfit =
       record {
         too_short = λ _. (refl, refl, refl);
-        steps = λ _. record { step = step; length = refl; past = refl };
+        steps = λ lent. record { step = gives_none s i p (unfit lent); length = refl; past = refl };
         refusal = λ f a. (refl, refl);
       }
-
-  pub open_not_given_up : (i : ℕ) → ((x : Evaluation) → s ≡ Iterating x → ⊥) → Called bot same e (EnoughRows e rows) (gave_up 0) s rows (give_up_open i) (gave_up 0) s rows
-  open_not_given_up i other = not_given_up (give_open_unfit (λ k. other (evaluation i k)))
-
-  pub settled_not_given_up : (i : ℕ) → ((x : Evaluation) → s ≡ Settled x → ⊥) → Called bot same e (EnoughRows e rows) (gave_up 0) s rows (give_up_settled i) (gave_up 0) s rows
-  settled_not_given_up i other = not_given_up (give_settled_unfit (λ k. other (evaluation i k)))
 
 -- The outcomes of making a table.
 module _ {V : Type 0} {bot : V} {same : V → V → Bool} {e : Equations V} {height : ℕ} {rows : List (Row V)} where

@@ -4,21 +4,21 @@ use Rattle.table_model.specs.Calls as calls
 use Rattle.table_model.specs.Calls.{refused, opened, rounded, closed, demanded, valued}
 use Rattle.table_model.specs.declared.fault.TableFault.{TableFault}
 use Rattle.attribute_table.specs.declared.session.Answer.{Answer}
-use Rattle.attribute_table.specs.declared.session.Closed.{Closed}
-use Rattle.attribute_table.specs.declared.session.OpenSession.{OpenSession}
+use Rattle.attribute_table.specs.declared.session.Iterating.{Iterating}
 use Rattle.attribute_table.specs.declared.session.Rounded.{Rounded}
 use Rattle.attribute_table.specs.declared.session.Rounded.TheVariants.{Changed, Unchanged}
-use Rattle.attribute_table.specs.declared.session.SettledSession.{SettledSession}
+use Rattle.attribute_table.specs.declared.session.Session.{Session}
+use Rattle.attribute_table.specs.declared.session.Settled.{Settled}
 
 abbrev pub result_of : {V : Type 0} → Answer V → calls.Result V
 result_of a = record { value = a.value; made_final = a.made_final; rounds = a.rounds }
 
-abbrev pub open_answer : {V : Type 0} → Result OpenSession TableFault → calls.Answer V
+abbrev pub open_answer : {V : Type 0} → Result (Session Iterating) TableFault → calls.Answer V
 open_answer (Ok session) = opened
 open_answer (Err f) = refused f
 
 -- The session that an open gives is at i, an instance that a system can have: so it may not be dropped.
-abbrev pub OpensAt : ℕ → Result OpenSession TableFault → Type 0
+abbrev pub OpensAt : ℕ → Result (Session Iterating) TableFault → Type 0
 OpensAt i (Ok session) = (session.instance ≡ i) × (session.instance < 4096)
 OpensAt i (Err f) = Unit
 
@@ -27,7 +27,7 @@ abbrev pub changed_rows : Rounded → ℕ
 changed_rows (Changed session count) = count
 changed_rows (Unchanged session) = 0
 
-abbrev pub round_answer : {V : Type 0} → Result Rounded (TableFault × OpenSession) → calls.Answer V
+abbrev pub round_answer : {V : Type 0} → Result Rounded (TableFault × Session Iterating) → calls.Answer V
 round_answer (Ok r) = rounded (changed_rows r)
 round_answer (Err f) = refused f.0
 
@@ -36,16 +36,16 @@ abbrev pub SessionAfter : ℕ → Rounded → Type 0
 SessionAfter i (Changed session count) = (session.instance ≡ i) × (0 < count)
 SessionAfter i (Unchanged session) = session.instance ≡ i
 
-abbrev pub RoundsAt : ℕ → Result Rounded (TableFault × OpenSession) → Type 0
+abbrev pub RoundsAt : ℕ → Result Rounded (TableFault × Session Iterating) → Type 0
 RoundsAt i (Ok r) = SessionAfter i r
 RoundsAt i (Err f) = f.1.instance ≡ i
 
-abbrev pub close_answer : {V : Type 0} → Result (Closed V) (TableFault × SettledSession) → calls.Answer V
-close_answer (Ok r) = closed (result_of r.answer)
+abbrev pub close_answer : {V : Type 0} → Result (Answer V) (TableFault × Session Settled) → calls.Answer V
+close_answer (Ok r) = closed (result_of r)
 close_answer (Err f) = refused f.0
 
 -- A close that is refused hands the session back.
-abbrev pub ClosesAt : {V : Type 0} → ℕ → Result (Closed V) (TableFault × SettledSession) → Type 0
+abbrev pub ClosesAt : {V : Type 0} → ℕ → Result (Answer V) (TableFault × Session Settled) → Type 0
 ClosesAt i (Ok r) = Unit
 ClosesAt i (Err f) = f.1.instance ≡ i
 

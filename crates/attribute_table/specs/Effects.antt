@@ -1,11 +1,9 @@
 -- What calls do to rows that are lent as a list. Assumes nothing.
 use Rattle.std.specs.Prelude.{◌≡◌, ℕ, ◌<◌, ◌≤◌, Bool, true, false, cond, List, length, ◌≢◌}
 use Rattle.equations.specs.Equations.{Equations}
-use Rattle.equations.specs.Rounds.{turn, changed, swept, changes, rounds, round_changes, members}
+use Rattle.equations.specs.Rounds.{turn, changed, swept, changes, rounds, round_changes}
 use Rattle.table_model.specs.Calls.{counted}
 use Rattle.table_model.specs.Rows.{row, pending, values}
-use Rattle.table_model.specs.declared.record.State.{State}
-use Rattle.table_model.specs.declared.record.State.TheVariants.{Idle}
 use Rattle.table_model.specs.declared.row.Mark.{Mark}
 use Rattle.table_model.specs.declared.row.Mark.TheVariants.{Untouched, Pending, Final}
 use Rattle.table_model.specs.declared.row.Row.{Row}
@@ -55,15 +53,6 @@ module _ {V : Type 0} (bot : V) where
   -- Each of the first n rows is changed by f, which also gets its number; the others are as they were.
   abbrev pub EachRow : ℕ → (ℕ → Row V → Row V) → List (Row V) → List (Row V) → Type 0
   EachRow n f = EachReplaced n (λ j r x. x ≡ f j r)
-
-  -- An evaluation is given up: if the session fits and there are enough rows, the record goes back to idle and the pending rows are released, `count` of them.
-  -- Else nothing changes.
-  pub record GivenUp (e : Equations V) (fits : Type 0) (s : State) (before : List (Row V)) (count : ℕ) (t : State) (after : List (Row V)) : Type 0 where
-    pub unfit : (fits → ⊥) → (count ≡ 0) × (t ≡ s) × (after ≡ before)
-    pub too_short : length before < e.size → (count ≡ 0) × (t ≡ s) × (after ≡ before)
-    pub idle : fits → e.size ≤ length before → t ≡ Idle
-    pub rows : fits → e.size ≤ length before → EachRow e.size (λ _. released_row) before after
-    pub counts : fits → e.size ≤ length before → count ≡ members (pending (rows_of bot before)) e.size
 
   module _ (same : V → V → Bool) (e : Equations V) where
     -- Row i took its equation's value, if it is pending; `change` tells whether that is another value.

@@ -1,3 +1,4 @@
 pub mod Lent
+pub mod Phases
 pub mod Answers
 pub mod Effects

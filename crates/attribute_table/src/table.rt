@@ -1,14 +1,14 @@
 // The table and its calls.
-ghost use Rattle.std.specs.Prelude.{◌≡◌, length};
-ghost use Rattle.table_model.specs.Calls.{open_at, round_of, close_of, give_up_open, give_up_settled, demand_at, read_at, refused, gave_up};
+ghost use Rattle.std.specs.Prelude.{◌≡◌, ◌<◌, ◌≤◌, length, IfOk, IfErr};
+ghost use Rattle.table_model.specs.Calls.{open_at, round_of, close_of, demand_at, read_at, refused, gave_up};
 ghost use Rattle.table_model.specs.Laws.{TableLaws};
 ghost use Rattle.table_model.specs.declared.fault.TableFault.TheVariants.{TooShort};
 ghost use Rattle.attribute_table.specs.Answers.{open_answer, OpensAt, round_answer, RoundsAt, close_answer, ClosesAt, demand_answer, read_answer};
-ghost use Rattle.attribute_table.specs.Effects.{GivenUp};
 ghost use Rattle.attribute_table.specs.Lent.{EnoughRows, EnoughPlaces, Called, Made};
+ghost use Rattle.attribute_table.specs.Phases.{give_up_in};
 
 use crate::rows;
-use crate::session::{Answer, Closed, OpenSession, Rounded, SettledSession};
+use crate::session::{Answer, OpenSession, Phase, Rounded, Session, SettledSession};
 use equations::System;
 use lattices::{Lattice, TOLD_HEIGHT_LIMIT};
 use reach_search::reach;
@@ -22,6 +22,17 @@ pub struct Table {
     state: State,
 }
 
+// Refuses a slice that is shorter than `least`.
+fn check_length<T>(lent: &[T], least: usize) -> Result<(), TableFault>
+    ensures ok { IfOk result (λ _. least ≤ length lent.now) }
+    ensures err { IfErr result (λ fault. (fault ≡ TooShort) × (length lent.now < least)) }
+{
+    if lent.len() < least {
+        return Err(TableFault::TooShort);
+    }
+    Ok(())
+}
+
 impl Table {
     // A new table: idle, its rows untouched at the bottom.
     pub fn new<S: System>(system: &S, rows: &mut [Row<S::Value>]) -> Result<Table, TableFault>
@@ -32,9 +43,7 @@ impl Table {
         if S::Value::told_height() == TOLD_HEIGHT_LIMIT {
             return Err(TableFault::TooHigh);
         }
-        if size > rows.len() {
-            return Err(TableFault::TooShort);
-        }
+        check_length(rows, size)?;
         rows::clear(&mut rows[..size]);
         Ok(Table { state: State::Idle })
     }
@@ -52,16 +61,15 @@ impl Table {
         ensures work { length work.new ≡ length work.old }
     {
         let size = system.size();
-        if rows.len() < size || work.len() < 2 * size {
-            return Err(TableFault::TooShort);
-        }
+        check_length(rows, size)?;
+        check_length(work, 2 * size)?;
         match self.state {
             State::Idle => {
                 if instance >= size {
                     return Err(TableFault::NoInstance);
                 }
                 let row = rows[instance];
-                if let Mark::Final = row.mark {
+                if row.mark == Mark::Final {
                     return Err(TableFault::AlreadyFinal);
                 }
                 reach(system, work, instance)?;
@@ -70,7 +78,7 @@ impl Table {
                     instance,
                     rounds: 0,
                 });
-                Ok(OpenSession { instance })
+                Ok(Session::new(instance))
             }
             State::Iterating(_) | State::Settled(_) => Err(TableFault::NotIdle),
         }
@@ -90,18 +98,13 @@ impl Table {
             return Err((TableFault::TooShort, session));
         }
         match (self.state, session.instance) {
-            (State::Iterating(open), instance) => {
-                if open.instance != instance {
-                    return Err((TableFault::NoFit, session));
-                }
+            (State::Iterating(open), instance) if open.instance == instance => {
                 let rounds = open.rounds.saturating_add(1);
                 let count = rows::evaluate_all(system, rows);
                 if count == 0 {
                     self.state = State::Settled(Evaluation { instance, rounds });
                     Ok(Rounded::Unchanged {
-                        session: SettledSession {
-                            instance: session.spend(),
-                        },
+                        session: Session::new(session.spend()),
                     })
                 } else {
                     self.state = State::Iterating(Evaluation { instance, rounds });
@@ -118,7 +121,7 @@ impl Table {
         system: &S,
         rows: &mut [Row<S::Value>],
         session: SettledSession,
-    ) -> Result<Closed<S::Value>, (TableFault, SettledSession)>
+    ) -> Result<Answer<S::Value>, (TableFault, SettledSession)>
         ensures call { Called S.Value.Lattice.bot S.Value.Lattice.same (S.System.equations system.now) (EnoughRows (S.System.equations system.now) rows.old) (refused TooShort) self.old.state rows.old (close_of session.instance) (close_answer result) self.new.state rows.new }
         ensures session { ClosesAt session.instance result }
     {
@@ -130,68 +133,33 @@ impl Table {
             return Err((TableFault::NoInstance, session));
         }
         match (self.state, session.instance) {
-            (State::Settled(settled), instance) => {
-                if settled.instance != instance {
-                    return Err((TableFault::NoFit, session));
-                }
+            (State::Settled(settled), instance) if settled.instance == instance => {
                 self.state = State::Idle;
                 let row = rows[session.spend()];
                 let value = row.value;
                 let made_final = rows::make_final(&mut rows[..size]);
-                Ok(Closed {
-                    answer: Answer {
-                        value,
-                        made_final,
-                        rounds: settled.rounds,
-                    },
+                Ok(Answer {
+                    value,
+                    made_final,
+                    rounds: settled.rounds,
                 })
             }
             _ => Err((TableFault::NoFit, session)),
         }
     }
 
-    // Ends an open session and releases its pending rows. Answers how many: 0 if the session does not fit or the rows are too short.
-    pub fn give_up_open<S: System>(
+    // Ends a session and releases its pending rows. Answers how many: 0 if the session does not fit or the rows are too short.
+    pub fn give_up<S: System, P: Phase>(
         &mut self,
         system: &S,
         rows: &mut [Row<S::Value>],
-        session: OpenSession,
+        session: Session<P>,
     ) -> usize
-        ensures { Called S.Value.Lattice.bot S.Value.Lattice.same (S.System.equations system.now) (EnoughRows (S.System.equations system.now) rows.old) (gave_up 0) self.old.state rows.old (give_up_open session.instance) (gave_up result) self.new.state rows.new }
-    {
-        match (self.state, session.spend()) {
-            (State::Iterating(open), instance) => self.give_up(system, rows, open, instance),
-            _ => 0,
-        }
-    }
-
-    // The same of a settled session.
-    pub fn give_up_settled<S: System>(
-        &mut self,
-        system: &S,
-        rows: &mut [Row<S::Value>],
-        session: SettledSession,
-    ) -> usize
-        ensures { Called S.Value.Lattice.bot S.Value.Lattice.same (S.System.equations system.now) (EnoughRows (S.System.equations system.now) rows.old) (gave_up 0) self.old.state rows.old (give_up_settled session.instance) (gave_up result) self.new.state rows.new }
-    {
-        match (self.state, session.spend()) {
-            (State::Settled(settled), instance) => self.give_up(system, rows, settled, instance),
-            _ => 0,
-        }
-    }
-
-    // Ends an evaluation and releases its pending rows. Answers how many: 0 if it is of another instance or the rows are too short.
-    fn give_up<S: System>(
-        &mut self,
-        system: &S,
-        rows: &mut [Row<S::Value>],
-        evaluation: Evaluation,
-        instance: usize,
-    ) -> usize
-        ensures { GivenUp S.Value.Lattice.bot (S.System.equations system.now) (evaluation.instance ≡ instance) self.old.state rows.old result self.new.state rows.new }
+        ensures { Called S.Value.Lattice.bot S.Value.Lattice.same (S.System.equations system.now) (EnoughRows (S.System.equations system.now) rows.old) (gave_up 0) self.old.state rows.old (give_up_in P.phase session.instance) (gave_up result) self.new.state rows.new }
     {
         let size = system.size();
-        if evaluation.instance != instance || rows.len() < size {
+        let fits = P::fits(self.state, session.spend());
+        if rows.len() < size || !fits {
             return 0;
         }
         self.state = State::Idle;
@@ -210,9 +178,8 @@ impl Table {
         ensures work { length work.new ≡ length work.old }
     {
         let size = system.size();
-        if rows.len() < size || work.len() < 2 * size {
-            return Err(TableFault::TooShort);
-        }
+        check_length(rows, size)?;
+        check_length(work, 2 * size)?;
         let State::Idle = self.state else {
             return Err(TableFault::NotIdle);
         };
@@ -220,7 +187,7 @@ impl Table {
             return Err(TableFault::NoInstance);
         }
         let row = rows[instance];
-        if let Mark::Final = row.mark {
+        if row.mark == Mark::Final {
             return Ok(Answer {
                 value: row.value,
                 made_final: 0,
@@ -250,9 +217,7 @@ impl Table {
         ensures { Called S.Value.Lattice.bot S.Value.Lattice.same (S.System.equations system.now) (EnoughRows (S.System.equations system.now) rows.now) (refused TooShort) self.now.state rows.now (read_at instance) (read_answer result) self.now.state rows.now }
     {
         let size = system.size();
-        if rows.len() < size {
-            return Err(TableFault::TooShort);
-        }
+        check_length(rows, size)?;
         if instance >= size {
             return Err(TableFault::NoInstance);
         }

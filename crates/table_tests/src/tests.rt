@@ -2,7 +2,7 @@
 use crate::largest::{Largest, NoEquations};
 use attribute_table::fault::TableFault;
 use attribute_table::row::{Mark, Row};
-use attribute_table::session::{Closed, OpenSession, Rounded, SettledSession};
+use attribute_table::session::{OpenSession, Phase, Rounded, Session, SettledSession};
 use attribute_table::table::Table;
 use equations::System;
 use example_system::parts::{ExampleSystem, Instance, Operand, Step, Value};
@@ -39,49 +39,33 @@ fn joins(
 
 // 0 and 1 read each other, 2 reads itself and 0, 3 dangles at its second and third operand, 4 reads 3.
 fn five(heap: Global) -> Result<ExampleSystem, AllocError> {
-    let mut instances = Vec::new(heap);
-    instances.push(joins(heap, value(false, 1), &[Ok(1)])?)?;
-    instances.push(joins(heap, value(true, 2), &[Ok(0)])?)?;
-    instances.push(joins(heap, value(false, 3), &[Ok(2), Ok(0)])?)?;
-    instances.push(joins(
-        heap,
-        value(false, 4),
-        &[
-            Ok(0),
-            Err(Dangling { reference: 7 }),
-            Err(Dangling { reference: 6 }),
-        ],
-    )?)?;
-    instances.push(joins(heap, value(false, 5), &[Ok(3)])?)?;
+    let dangling = [
+        Ok(0),
+        Err(Dangling { reference: 7 }),
+        Err(Dangling { reference: 6 }),
+    ];
+    let instances = vec![in heap;
+        joins(heap, value(false, 1), &[Ok(1)])?,
+        joins(heap, value(true, 2), &[Ok(0)])?,
+        joins(heap, value(false, 3), &[Ok(2), Ok(0)])?,
+        joins(heap, value(false, 4), &dangling)?,
+        joins(heap, value(false, 5), &[Ok(3)])?,
+    ]?;
     Ok(ExampleSystem { instances })
 }
 
 // Rows that no table has touched yet, with some number in them.
 fn some_rows(heap: Global, count: usize) -> Result<Vec<Row<Value>>, AllocError> {
-    let mut rows = Vec::new(heap);
-    for _ in 0..count {
-        rows.push(Row {
-            mark: Mark::Pending,
-            value: value(false, 9),
-        })?;
-    }
-    Ok(rows)
+    let row = Row {
+        mark: Mark::Pending,
+        value: value(false, 9),
+    };
+    Ok(vec![in heap; row; count]?)
 }
 
-fn places(heap: Global, count: usize) -> Result<Vec<usize>, AllocError> {
-    let mut work = Vec::new(heap);
-    for _ in 0..count {
-        work.push(77)?;
-    }
-    Ok(work)
-}
-
-// The number of a refusal, or 0.
-fn made(res: Result<Table, TableFault>) -> u8 {
-    match res {
-        Ok(_) => 0,
-        Err(fault) => fault.number(),
-    }
+// The number of a refusal.
+fn numbered<T: Drop>(outcome: Result<T, TableFault>) -> Result<(), u8> {
+    outcome.map(|_| ()).map_err(TableFault::number)
 }
 
 fn has(rows: &[Row<Value>], instance: usize, mark: Mark, value: Value) -> bool {
@@ -89,18 +73,6 @@ fn has(rows: &[Row<Value>], instance: usize, mark: Mark, value: Value) -> bool {
         Some(row) => row.mark == mark && row.value.equal(value),
         None => false,
     }
-}
-
-// A session, open or settled.
-#[derive(Drop)]
-enum Held {
-    Open(OpenSession),
-    Settled(SettledSession),
-}
-
-// The rows made final and the rounds of a close.
-fn told_by_close(closed: Closed<Value>) -> (usize, u32) {
-    (closed.answer.made_final, closed.answer.rounds)
 }
 
 // A system with its table.
@@ -116,105 +88,96 @@ struct Lent {
 fn lend(heap: Global, count: usize) -> Result<Lent, Fail> {
     let system = five(heap)?;
     let mut rows = some_rows(heap, 5)?;
-    let work = places(heap, count)?;
-    match Table::new(&system, &mut rows) {
-        Ok(table) => Ok(Lent {
-            system,
-            rows,
-            work,
-            table,
-        }),
-        Err(_) => Err(Fail::new("not made")),
-    }
+    let work = vec![in heap; 77; count]?;
+    let table = Table::new(&system, &mut rows).map_err(TableFault::number)?;
+    Ok(Lent {
+        system,
+        rows,
+        work,
+        table,
+    })
 }
 
 impl Lent {
-    // The number of a demand's refusal, or 0.
-    fn demand(&mut self, instance: usize) -> u8 {
-        let Lent {
-            system,
-            rows,
-            work,
-            table,
-        } = self;
-        match table.demand(system, rows, work, instance) {
-            Ok(_) => 0,
-            Err(fault) => fault.number(),
-        }
+    fn demand(&mut self, instance: usize) -> Result<(), u8> {
+        numbered(
+            self.table
+                .demand(&self.system, &mut self.rows, &mut self.work, instance),
+        )
     }
 
-    // The same of an open; a session is given up.
-    fn open(&mut self, instance: usize) -> u8 {
-        match self.begin(instance) {
-            Ok(session) => {
-                self.give_up(Held::Open(session));
-                0
-            }
-            Err(number) => number,
-        }
+    fn read(&self, instance: usize) -> Result<(), u8> {
+        numbered(self.table.read(&self.system, &self.rows, instance))
     }
 
-    fn begin(&mut self, instance: usize) -> Result<OpenSession, u8> {
-        let Lent {
-            system,
-            rows,
-            work,
-            table,
-        } = self;
-        match table.open(system, rows, work, instance) {
-            Ok(session) => Ok(session),
-            Err(fault) => Err(fault.number()),
-        }
+    fn open(&mut self, instance: usize) -> Result<OpenSession, u8> {
+        self.table
+            .open(&self.system, &mut self.rows, &mut self.work, instance)
+            .map_err(TableFault::number)
     }
 
-    // A round: how many rows changed, or 100 more than a refusal's number. A settled session stays.
-    fn round(&mut self, held: Held) -> (usize, Held) {
-        let session = match held {
-            Held::Open(session) => session,
-            Held::Settled(session) => return (99, Held::Settled(session)),
-        };
+    // Opens a session and gives it up.
+    fn open_and_give_up(&mut self, instance: usize) -> Result<(), u8> {
+        let session = self.open(instance)?;
+        self.give_up(session);
+        Ok(())
+    }
+
+    // A round that changes rows: how many.
+    fn round(&mut self, session: OpenSession) -> Result<(usize, OpenSession), Fail> {
         match self.table.round(&self.system, &mut self.rows, session) {
-            Ok(Rounded::Changed { session, count }) => (count, Held::Open(session)),
-            Ok(Rounded::Unchanged { session }) => (0, Held::Settled(session)),
-            Err((fault, session)) => (100 + usize::from(fault.number()), Held::Open(session)),
+            Ok(Rounded::Changed { session, count }) => Ok((count, session)),
+            Ok(Rounded::Unchanged { session }) => Err(self.fail(session, "no row changed")),
+            Err((_, session)) => Err(self.fail(session, "a round was refused")),
         }
     }
 
-    // A close: the rows made final and the rounds, or 100 more than a refusal's number. An open session is given up.
-    fn close(&mut self, held: Held) -> (usize, u32) {
-        let session = match held {
-            Held::Open(session) => return (self.give_up(Held::Open(session)), 99),
-            Held::Settled(session) => session,
-        };
+    // A round that changes no row.
+    fn last_round(&mut self, session: OpenSession) -> Result<SettledSession, Fail> {
+        match self.table.round(&self.system, &mut self.rows, session) {
+            Ok(Rounded::Unchanged { session }) => Ok(session),
+            Ok(Rounded::Changed { session, count: _ }) => Err(self.fail(session, "a row changed")),
+            Err((_, session)) => Err(self.fail(session, "a round was refused")),
+        }
+    }
+
+    // A round that is refused: the number.
+    fn refused_round(&mut self, session: OpenSession) -> Result<(u8, OpenSession), Fail> {
+        match self.table.round(&self.system, &mut self.rows, session) {
+            Err((fault, session)) => Ok((fault.number(), session)),
+            Ok(Rounded::Changed { session, count: _ }) => Err(self.fail(session, "not refused")),
+            Ok(Rounded::Unchanged { session }) => Err(self.fail(session, "not refused")),
+        }
+    }
+
+    // Rounds until the session of a cycle is settled: how many rows the first two changed.
+    fn settle(&mut self, session: OpenSession) -> Result<([usize; 2], SettledSession), Fail> {
+        let (first, session) = self.round(session)?;
+        let (second, session) = self.round(session)?;
+        let session = self.last_round(session)?;
+        Ok(([first, second], session))
+    }
+
+    // The rows made final and the rounds of a close. A session whose close is refused is given up.
+    fn close(&mut self, session: SettledSession) -> Result<(usize, u32), u8> {
         match self.table.close(&self.system, &mut self.rows, session) {
-            Ok(closed) => told_by_close(closed),
-            Err(refused) => {
-                let (fault, session) = refused;
-                self.give_up(Held::Settled(session));
-                (100 + usize::from(fault.number()), 0)
+            Ok(answer) => Ok((answer.made_final, answer.rounds)),
+            Err((fault, session)) => {
+                self.give_up(session);
+                Err(fault.number())
             }
         }
     }
 
     // Gives a session up: how many rows there were.
-    fn give_up(&mut self, held: Held) -> usize {
-        match held {
-            Held::Open(session) => {
-                self.table
-                    .give_up_open(&self.system, &mut self.rows, session)
-            }
-            Held::Settled(session) => {
-                self.table
-                    .give_up_settled(&self.system, &mut self.rows, session)
-            }
-        }
+    fn give_up<P: Phase>(&mut self, session: Session<P>) -> usize {
+        self.table.give_up(&self.system, &mut self.rows, session)
     }
 
-    fn read(&self, instance: usize) -> u8 {
-        match self.table.read(&self.system, &self.rows, instance) {
-            Ok(_) => 0,
-            Err(fault) => fault.number(),
-        }
+    // Gives a session up in a test that fails.
+    fn fail<P: Phase>(&mut self, session: Session<P>, why: &'static str) -> Fail {
+        self.give_up(session);
+        Fail::new(why)
     }
 }
 
@@ -223,10 +186,10 @@ fn making(rt: HostRuntime) -> Result<(), Fail> {
     let heap = rt.alloc();
     let system = five(heap)?;
     let mut short = some_rows(heap, 4)?;
-    assert_eq!(rt; made(Table::new(&system, &mut short)), 10);
+    assert_eq!(rt; numbered(Table::new(&system, &mut short)), Err(10));
     assert!(rt; has(&short, 0, Mark::Pending, value(false, 9)));
     let mut rows = some_rows(heap, 6)?;
-    assert_eq!(rt; made(Table::new(&system, &mut rows)), 0);
+    assert_eq!(rt; numbered(Table::new(&system, &mut rows)), Ok(()));
     let bottom = <Pair<bool, NumberSet> as Lattice>::bottom();
     assert!(rt; has(&rows, 4, Mark::Untouched, bottom));
     assert!(rt; has(&rows, 5, Mark::Pending, value(false, 9)));
@@ -236,37 +199,37 @@ fn making(rt: HostRuntime) -> Result<(), Fail> {
 #[test]
 fn too_high(rt: HostRuntime) {
     let mut none: Vec<Row<Largest>> = Vec::new(rt.alloc());
-    assert_eq!(rt; made(Table::new(&NoEquations, &mut none)), 11);
+    assert_eq!(rt; numbered(Table::new(&NoEquations, &mut none)), Err(11));
 }
 
 #[test]
 fn demands_and_reads(rt: HostRuntime) -> Result<(), Fail> {
     let mut lent = lend(rt.alloc(), 10)?;
-    assert_eq!(rt; lent.demand(5), 12);
-    assert_eq!(rt; lent.demand(3), 14);
-    assert_eq!(rt; lent.read(0), 16);
-    assert_eq!(rt; lent.demand(1), 0);
-    assert_eq!(rt; lent.read(0), 0);
-    assert_eq!(rt; lent.read(5), 12);
+    assert_eq!(rt; lent.demand(5), Err(12));
+    assert_eq!(rt; lent.demand(3), Err(14));
+    assert_eq!(rt; lent.read(0), Err(16));
+    assert_eq!(rt; lent.demand(1), Ok(()));
+    assert_eq!(rt; lent.read(0), Ok(()));
+    assert_eq!(rt; lent.read(5), Err(12));
     Ok(())
 }
 
 #[test]
 fn opens(rt: HostRuntime) -> Result<(), Fail> {
     let mut lent = lend(rt.alloc(), 10)?;
-    assert_eq!(rt; lent.open(5), 12);
-    assert_eq!(rt; lent.open(4), 14);
-    assert_eq!(rt; lent.open(2), 0);
-    assert_eq!(rt; lent.demand(1), 0);
-    assert_eq!(rt; lent.open(0), 15);
+    assert_eq!(rt; lent.open_and_give_up(5), Err(12));
+    assert_eq!(rt; lent.open_and_give_up(4), Err(14));
+    assert_eq!(rt; lent.open_and_give_up(2), Ok(()));
+    assert_eq!(rt; lent.demand(1), Ok(()));
+    assert_eq!(rt; lent.open_and_give_up(0), Err(15));
     Ok(())
 }
 
 #[test]
 fn too_few_places(rt: HostRuntime) -> Result<(), Fail> {
     let mut lent = lend(rt.alloc(), 9)?;
-    assert_eq!(rt; lent.open(5), 10);
-    assert_eq!(rt; lent.demand(5), 10);
+    assert_eq!(rt; lent.open_and_give_up(5), Err(10));
+    assert_eq!(rt; lent.demand(5), Err(10));
     Ok(())
 }
 
@@ -275,24 +238,20 @@ fn too_few_rows(rt: HostRuntime) -> Result<(), Fail> {
     let heap = rt.alloc();
     let mut lent = lend(heap, 10)?;
     lent.rows = some_rows(heap, 4)?;
-    assert_eq!(rt; lent.open(5), 10);
-    assert_eq!(rt; lent.demand(5), 10);
-    assert_eq!(rt; lent.read(5), 10);
+    assert_eq!(rt; lent.open_and_give_up(5), Err(10));
+    assert_eq!(rt; lent.demand(5), Err(10));
+    assert_eq!(rt; lent.read(5), Err(10));
     Ok(())
 }
 
 #[test]
 fn dangling_names_the_lowest(rt: HostRuntime) -> Result<(), Fail> {
     let mut lent = lend(rt.alloc(), 10)?;
-    let Lent {
-        system,
-        rows,
-        work,
-        table,
-    } = &mut lent;
-    let dangling = match table.demand(system, rows, work, 4) {
-        Err(TableFault::Dangling(dangling)) => dangling,
-        _ => return Err(Fail::new("not dangling")),
+    let outcome = lent
+        .table
+        .demand(&lent.system, &mut lent.rows, &mut lent.work, 4);
+    let Err(TableFault::Dangling(dangling)) = outcome else {
+        return Err(Fail::new("not dangling"));
     };
     assert_eq!(rt; dangling.instance, 3);
     assert_eq!(rt; dangling.operand, 1);
@@ -300,92 +259,39 @@ fn dangling_names_the_lowest(rt: HostRuntime) -> Result<(), Fail> {
     Ok(())
 }
 
-// What a session of three rounds tells: the rows that each changed, and what its close answers.
-#[derive(Clone, Copy)]
-struct Told {
-    first: usize,
-    second: usize,
-    third: usize,
-    made_final: usize,
-    rounds: u32,
-}
-
-fn three_rounds(lent: &mut Lent, session: OpenSession) -> Told {
-    let (first, held) = lent.round(Held::Open(session));
-    let (second, held) = lent.round(held);
-    let (third, held) = lent.round(held);
-    let (made_final, rounds) = lent.close(held);
-    Told {
-        first,
-        second,
-        third,
-        made_final,
-        rounds,
-    }
-}
-
 #[test]
 fn session_of_a_cycle(rt: HostRuntime) -> Result<(), Fail> {
     let mut lent = lend(rt.alloc(), 10)?;
-    let told = match lent.begin(0) {
-        Ok(session) => three_rounds(&mut lent, session),
-        Err(_) => return Err(Fail::new("not opened")),
-    };
-    assert_eq!(rt; told.first, 2);
-    assert_eq!(rt; told.second, 1);
-    assert_eq!(rt; told.third, 0);
-    assert_eq!(rt; told.made_final, 2);
-    assert_eq!(rt; told.rounds, 3);
+    let session = lent.open(0)?;
+    let (changed, session) = lent.settle(session)?;
+    assert_eq!(rt; changed, [2, 1]);
+    assert_eq!(rt; lent.close(session), Ok((2, 3)));
     let both = value(true, 1).join(value(true, 2));
     assert!(rt; has(&lent.rows, 0, Mark::Final, both));
     assert!(rt; has(&lent.rows, 1, Mark::Final, both));
     Ok(())
 }
 
-// What is refused while a session iterates, and how many rows it then gives up.
-#[derive(Clone, Copy)]
-struct Interrupted {
-    demand: u8,
-    read: u8,
-    given_up: usize,
-}
-
-fn interrupt(lent: &mut Lent, session: OpenSession) -> Interrupted {
-    let (_, held) = lent.round(Held::Open(session));
-    let demand = lent.demand(9);
-    let read = lent.read(0);
-    let given_up = lent.give_up(held);
-    Interrupted {
-        demand,
-        read,
-        given_up,
-    }
-}
-
 #[test]
 fn interrupted_and_given_up(rt: HostRuntime) -> Result<(), Fail> {
     let mut lent = lend(rt.alloc(), 10)?;
-    let seen = match lent.begin(2) {
-        Ok(session) => interrupt(&mut lent, session),
-        Err(_) => return Err(Fail::new("not opened")),
-    };
-    assert_eq!(rt; seen.demand, 13);
-    assert_eq!(rt; seen.read, 16);
-    assert_eq!(rt; seen.given_up, 3);
-    assert_eq!(rt; lent.demand(2), 0);
+    let session = lent.open(2)?;
+    let (_, session) = lent.round(session)?;
+    assert_eq!(rt; lent.demand(9), Err(13));
+    assert_eq!(rt; lent.read(0), Err(16));
+    assert_eq!(rt; lent.give_up(session), 3);
+    assert_eq!(rt; lent.demand(2), Ok(()));
     let three = value(true, 1).join(value(true, 2)).join(value(true, 3));
     assert!(rt; has(&lent.rows, 2, Mark::Final, three));
     Ok(())
 }
 
 // Brings a session to another table: the refusal of a round there, and of a close once it is settled.
-fn bring(lent: &mut Lent, other: &mut Lent, session: OpenSession) -> (usize, usize) {
-    let (round, held) = other.round(Held::Open(session));
-    let (_, held) = lent.round(held);
-    let (_, held) = lent.round(held);
-    let (_, held) = lent.round(held);
-    let (close, _) = other.close(held);
-    (round, close)
+fn bring(lent: &mut Lent, other: &mut Lent) -> Result<(u8, Result<(usize, u32), u8>), Fail> {
+    let session = lent.open(0)?;
+    let (round, session) = other.refused_round(session)?;
+    let (_, session) = lent.settle(session)?;
+    Ok((round, other.close(session)))
 }
 
 #[test]
@@ -393,13 +299,10 @@ fn sessions_that_do_not_fit(rt: HostRuntime) -> Result<(), Fail> {
     let heap = rt.alloc();
     let mut lent = lend(heap, 10)?;
     let mut other = lend(heap, 10)?;
-    let (round, close) = match lent.begin(0) {
-        Ok(session) => bring(&mut lent, &mut other, session),
-        Err(_) => return Err(Fail::new("not opened")),
-    };
-    assert_eq!(rt; round, 117);
-    assert_eq!(rt; close, 117);
-    assert_eq!(rt; lent.demand(0), 13);
+    let (round, close) = bring(&mut lent, &mut other)?;
+    assert_eq!(rt; round, 17);
+    assert_eq!(rt; close, Err(17));
+    assert_eq!(rt; lent.demand(0), Err(13));
     Ok(())
 }
 
@@ -411,11 +314,8 @@ fn no_such_instance_to_close(rt: HostRuntime) -> Result<(), Fail> {
     other.system = ExampleSystem {
         instances: Vec::new(heap),
     };
-    let (_, close) = match lent.begin(0) {
-        Ok(session) => bring(&mut lent, &mut other, session),
-        Err(_) => return Err(Fail::new("not opened")),
-    };
-    assert_eq!(rt; close, 112);
+    let (_, close) = bring(&mut lent, &mut other)?;
+    assert_eq!(rt; close, Err(12));
     Ok(())
 }
 
@@ -423,23 +323,15 @@ fn no_such_instance_to_close(rt: HostRuntime) -> Result<(), Fail> {
 fn demands_in_two_orders(rt: HostRuntime) -> Result<(), Fail> {
     let heap = rt.alloc();
     let mut lent = lend(heap, 10)?;
-    assert_eq!(rt; lent.demand(1), 0);
-    assert_eq!(rt; lent.demand(2), 0);
+    assert_eq!(rt; lent.demand(1), Ok(()));
+    assert_eq!(rt; lent.demand(2), Ok(()));
     let mut other = lend(heap, 10)?;
-    assert_eq!(rt; other.demand(2), 0);
-    assert_eq!(rt; other.demand(1), 0);
+    assert_eq!(rt; other.demand(2), Ok(()));
+    assert_eq!(rt; other.demand(1), Ok(()));
     for (i, row) in lent.rows.iter().enumerate() {
         assert!(rt; has(&other.rows, i, row.mark, row.value));
     }
     Ok(())
-}
-
-// A round and a give-up with too few rows.
-fn shorten(lent: &mut Lent, short: Vec<Row<Value>>, session: OpenSession) -> (usize, usize) {
-    lent.rows = short;
-    let (round, held) = lent.round(Held::Open(session));
-    let given_up = lent.give_up(held);
-    (round, given_up)
 }
 
 #[test]
@@ -447,12 +339,11 @@ fn too_few_rows_in_a_session(rt: HostRuntime) -> Result<(), Fail> {
     let heap = rt.alloc();
     let mut lent = lend(heap, 10)?;
     let short = some_rows(heap, 4)?;
-    let (round, given_up) = match lent.begin(0) {
-        Ok(session) => shorten(&mut lent, short, session),
-        Err(_) => return Err(Fail::new("not opened")),
-    };
-    assert_eq!(rt; round, 110);
-    assert_eq!(rt; given_up, 0);
-    assert_eq!(rt; lent.demand(0), 10);
+    let session = lent.open(0)?;
+    lent.rows = short;
+    let (round, session) = lent.refused_round(session)?;
+    assert_eq!(rt; round, 10);
+    assert_eq!(rt; lent.give_up(session), 0);
+    assert_eq!(rt; lent.demand(0), Err(10));
     Ok(())
 }

@@ -1,5 +1,5 @@
 -- The session fits the record, or it does not.
-use Rattle.std.proofs.Common.{refl, ap, ◌∙◌, arith}
+use Rattle.std.proofs.Common.{ap, ◌∙◌, arith}
 use Rattle.std.proofs.lemmas.List.{get_or_read}
 use Rattle.table_model.specs.Calls.{evaluation}
 use Rattle.table_model.specs.Rows.{row}
@@ -9,31 +9,25 @@ use Rattle.attribute_table.specs.Lent.{rows_of}
 use Rattle.attribute_table.proofs.Calls.{kept}
 use Rattle.attribute_table.proofs.Each.{each_lent, counts_lent}
 use Rattle.attribute_table.proofs.Outcomes.{another_settled, close_of_settled}
+use Rattle.attribute_table.proofs.table.Table.close.Goals.{in_default-via-in-Settled-default+else-settled-instance, in_default-via-in_default}
 use Rattle.attribute_table.proofs.table.Table.close.Goals as goal
 
-pub returns-then-session-size : goal.returns-then-session-size
-returns-then-session-size g c = record { call = kept (omega arith) (close_none (omega arith)); session = refl }
+pub returns-then-session-size-clause-call : goal.returns-then-session-size-clause-call
+returns-then-session-size-clause-call g c = kept (omega arith) (close_none (omega arith))
 
-pub returns-then-settled-instance : goal.returns-then-settled-instance
-returns-then-settled-instance g c =
-    record {
-      call = kept (omega arith) (close_unfit (omega arith) (another_settled _ c.in-Settled-default.settled _ c.in-Settled-default.is-0 c.if-settled-instance.true));
-      session = refl;
-    }
-
-pub returns-else-settled-instance : goal.returns-else-settled-instance
-returns-else-settled-instance g c =
+pub returns-in-Settled-default-clause-call : goal.returns-in-Settled-default-clause-call
+returns-in-Settled-default-clause-call g c =
     let rows = c.args.rows.now in
     let bot = g.S.Value.Lattice.bot in
     let size = c.size-size.ensures.size in
     let closes = c.make_final-made_final.ensures in
     let read = get_or_read rows c.spend.result c.index-rows-spend.result (omega arith) c.index-rows-spend.is (row Untouched bot) in
-    record {
-      call = close_of_settled (omega arith) c.in-Settled-default.settled c.if-settled-instance.false c.in-Settled-default.is-0 (omega arith) c.index-rows-spend.result
-          (read ∙ ap (rows_of bot rows) c.spend.ensures) (each_lent bot size _ (omega arith) closes.rows) (counts_lent bot size rows (omega arith) closes.count);
-      session = tt;
-    }
+    close_of_settled (omega arith) c.in-Settled-default.settled c.if-settled-instance.true c.in-Settled-default.is-0 (omega arith) c.index-rows-spend.result
+    (read ∙ ap (rows_of bot rows) c.spend.ensures) (each_lent bot size _ (omega arith) closes.rows) (counts_lent bot size rows (omega arith) closes.count)
 
-pub returns-in_default : goal.returns-in_default
-returns-in_default g c =
-    record { call = kept (omega arith) (close_unfit (omega arith) (λ k. c.in_default.not-Settled-0 (evaluation c.args.session.instance k))); session = refl }
+pub returns-in_default-clause-call : goal.returns-in_default-clause-call
+returns-in_default-clause-call g c =
+    kept (omega arith) (close_unfit (omega arith) (elim c.in_default.branch [
+      | in_default-via-in-Settled-default+else-settled-instance w ↦ another_settled _ w.in-Settled-default.settled _ w.in-Settled-default.is-0 w.if-settled-instance.false
+      | in_default-via-in_default w ↦ λ k. w.in_default.not-Settled-0 (evaluation c.args.session.instance k)
+    ]))

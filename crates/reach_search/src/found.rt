@@ -1,0 +1,65 @@
+// The instances that a search has found, over a lent work list.
+ghost use Rattle.std.specs.Prelude.{◌≡◌, ◌↔◌, ◌<◌, length, IsTrue};
+ghost use Rattle.equations.specs.Reach.{Uses};
+ghost use Rattle.reach_search.specs.Queued.{Queued, Adds, Visits};
+
+use equations::System;
+
+// A mark for each instance, 1 for those found and else 0, and the queue of those found, in the order in which they were.
+#[derive(Drop)]
+pub(crate) struct Found<'a> {
+    pub(crate) marks: &'a mut [usize],
+    pub(crate) queue: &'a mut [usize],
+    // How many are in the queue.
+    pub(crate) count: usize,
+    // How many of them were visited.
+    pub(crate) visited: usize,
+}
+
+impl Found<'_> {
+    // The next instance in the queue, which is then a visited one.
+    pub(crate) fn next(&mut self) -> Option<usize>
+        requires { Queued self.old }
+        ensures { Visits self.old self.new result }
+    {
+        if self.visited >= self.count {
+            return None;
+        }
+        let instance = self.queue[self.visited];
+        self.visited += 1;
+        Some(instance)
+    }
+
+    // Adds an instance, unless it is found already.
+    pub(crate) fn add(&mut self, instance: usize)
+        requires within { instance < length self.old.marks.now }
+        requires queue { Queued self.old }
+        ensures { Adds (λ j. j ≡ instance) self.old self.new }
+    {
+        if !is_marked(self.marks[instance]) {
+            self.marks[instance] = 1;
+            self.queue[self.count] = instance;
+            self.count += 1;
+        }
+    }
+
+    // Adds the operands of an instance.
+    pub(crate) fn add_operands<S: System>(&mut self, system: &S, instance: usize)
+        requires size { length self.old.marks.now ≡ (S.System.equations system.now).size }
+        requires queue { Queued self.old }
+        ensures { Adds (Uses (S.System.equations system.now) instance) self.old self.new }
+    {
+        for index in 0..system.operand_count(instance) {
+            if let Ok(operand) = system.operand(instance, index) {
+                self.add(operand);
+            }
+        }
+    }
+}
+
+// Whether a mark is that of an instance found.
+pub(crate) fn is_marked(mark: usize) -> bool
+    ensures { IsTrue result ↔ mark ≡ 1 }
+{
+    mark == 1
+}

@@ -1,6 +1,8 @@
 -- A search marks what is in reach. Assumes nothing.
 use Rattle.std.proofs.Common.{◌≡◌, ℕ, ◌+◌, ◌-◌, ◌<◌, ◌≤◌, ◌⊎◌, List, length, get_or, Ok, Err, Some, sym, refl, ap, ◌∙◌, subst, inl, inr, ⊎_elim, arith}
-use Rattle.std.proofs.lemmas.Bool.{cases_lt}
+use Rattle.std.proofs.lemmas.Bool.{cases_lt, cases_eq}
+use Rattle.std.proofs.Math.Logic.{∥∥₁_elim}
+use Rattle.std.proofs.Props.{props}
 use Rattle.references.specs.declared.Dangling.{Dangling}
 use Rattle.equations.specs.Equations.{Equations}
 use Rattle.equations.specs.Reach.{Reach, here, along, Uses}
@@ -8,7 +10,8 @@ use Rattle.equations.proofs.Paths.{reach_trans, reach_uses}
 use Rattle.table_model.proofs.Lowest.{never}
 use Rattle.reach_search.specs.declared.found.Found.{Found}
 use Rattle.reach_search.specs.Searched.{MarksReach}
-use Rattle.reach_search.specs.Queued.{Marked, queued, Queued, SameLists, Adds, Visits}
+use Rattle.reach_search.specs.Queued.{Marked}
+use Rattle.reach_search.specs.Additions.{queued, SameLists, Adds, Visits}
 use Rattle.reach_search.proofs.Adding.{found_most, adds_none, adds_both}
 
 module _ {V : Type 0} (e : Equations V) where
@@ -34,13 +37,12 @@ module _ {V : Type 0} (e : Equations V) where
   -- A dangling one is passed over.
   pub adds_dangling : {i k : ℕ} {d : Dangling} {a b : Found} → Adds (UsesBelow i k) a b → e.operand i k ≡ Err d → Adds (UsesBelow i (k + 1)) a b
   adds_dangling {i = i} {k = k} s q =
-      adds_both s (adds_none {P = λ j. ⊥} s.queue (λ j n. absurd n)) (uses_still i k) (λ j n. absurd n) (λ h u. ⊎_elim inl (λ at. absurd (never (cc))) (uses_cases i k h u))
+      adds_both s (adds_none {P = λ j. ⊥} _ (λ j n. absurd n)) (uses_still i k) (λ j n. absurd n) (λ h u. ⊎_elim inl (λ at. absurd (never (cc))) (uses_cases i k h u))
 
   -- The search from i, over the lists that it began with: the instances found are in reach, and the operands of those visited are found.
   pub record Searching (i : ℕ) (begin f : Found) : Type 0 where
     pub lists : SameLists begin f
     pub size : length f.marks.now ≡ e.size
-    pub queue : Queued f
     pub start : Marked f.marks.now i
     pub sound : (j : ℕ) → Marked f.marks.now j → Reach e i j
     pub closed : (p j : ℕ) → p < f.visited → Uses e (queued f p) j → Marked f.marks.now j
@@ -51,7 +53,6 @@ module _ {V : Type 0} (e : Equations V) where
       record {
         lists = record { marks = refl; queue = refl; size = refl };
         size = a.lists.size ∙ size;
-        queue = a.queue;
         start = a.all i (λ _. i);
         sound = λ j m.
             ⊎_elim (λ (k : Marked before.marks.now j). absurd (omega (arith, none j k.0, k.1))) (λ q. subst (Reach e i) (sym q) here) (a.only j m);
@@ -60,28 +61,29 @@ module _ {V : Type 0} (e : Equations V) where
 
   -- The next instance in the queue is visited, and its operands are added.
   pub searching_more : {i next : ℕ} {begin a b c : Found} → Searching i begin a → Visits a b (Some next) → Adds (Uses e next) b c → Searching i begin c
-  searching_more {i} {next} {a = a} {c = c} s v adds =
-      let t : Adds (Uses e next) (record a { visited = a.visited + 1 }) c = subst (λ x. Adds (Uses e next) x c) v.2 adds in
+  searching_more {i} {next} {begin} {a} {b} {c} s v t =
+      let same : b.marks.now ≡ a.marks.now = ap (λ x. x.now) v.marks in
+      let stay : (j : ℕ) → Marked a.marks.now j → Marked c.marks.now j = λ j k. t.stay j (subst (λ x. Marked x j) (sym same) k) in
+      let earlier : (p : ℕ) → p < a.count → queued c p ≡ queued a p = λ p l. t.earlier p (omega (arith, v.count)) ∙ ap (λ x. get_or x.now p 0) v.queue in
       record {
         lists =
             record {
-              marks = t.lists.marks ∙ s.lists.marks;
-              queue = t.lists.queue ∙ s.lists.queue;
-              size = t.lists.size ∙ s.lists.size;
+              marks = t.lists.marks ∙ ap (λ x. x.ghost_name) v.marks ∙ s.lists.marks;
+              queue = t.lists.queue ∙ ap (λ x. x.ghost_name) v.queue ∙ s.lists.queue;
+              size = t.lists.size ∙ ap length same ∙ s.lists.size;
             };
-        size = t.lists.size ∙ s.size;
-        queue = t.queue;
-        start = t.stay i s.start;
+        size = t.lists.size ∙ ap length same ∙ s.size;
+        start = stay i s.start;
         sound = λ j m.
-            let r = subst (Reach e i) (sym v.1) (s.sound (queued a a.visited) (s.queue.marks a.visited v.0)) in
-            ⊎_elim (s.sound j) (λ u. reach_trans r (reach_uses u)) (t.only j m);
+            let r = subst (Reach e i) (sym v.next.1) (s.sound (queued a a.visited) (a.marked a.visited v.next.0)) in
+            ⊎_elim (λ k. s.sound j (subst (λ x. Marked x j) same k)) (λ u. reach_trans r (reach_uses u)) (t.only j m);
         closed = λ p j k u.
-            let same : p < a.count → Uses e (queued a p) j = λ m. subst (λ z. Uses e z j) (t.earlier p m) u in
+            let same : p < a.count → Uses e (queued a p) j = λ m. subst (λ z. Uses e z j) (earlier p m) u in
             ⊎_elim
-            (λ (m : p < a.visited). t.stay j (s.closed p j m (same (omega (arith, v.0)))))
+            (λ (m : p < a.visited). stay j (s.closed p j m (same (omega (arith, v.next.0)))))
             (λ (m : a.visited ≤ p).
-            let is : p ≡ a.visited = omega (arith, t.visited) in
-            t.all j (subst (λ z. Uses e z j) (ap (queued a) is ∙ sym v.1) (same (omega (arith, v.0)))))
+            let is : p ≡ a.visited = omega (arith, t.visited, v.next.2) in
+            t.all j (subst (λ z. Uses e z j) (ap (queued a) is ∙ sym v.next.1) (same (omega (arith, v.next.0)))))
             (cases_lt p a.visited);
       }
 
@@ -89,18 +91,16 @@ module _ {V : Type 0} (e : Equations V) where
   module _ {i : ℕ} {begin f : Found} (s : Searching i begin f) (all : f.count ≤ f.visited) where
     complete : {j k : ℕ} → Marked f.marks.now j → Reach e j k → Marked f.marks.now k
     complete m here = m
-    complete {j} m (along {j = h} o l q r) =
-        let p = s.queue.place j m in
-        let u : Uses e (queued f p.0) h = subst (λ z. Uses e z h) (sym p.2) (o, l, q) in
-        complete (s.closed p.0 h (omega (arith, p.1)) u) r
+    complete {j} {k} m (along {j = h} o l q r) =
+        ∥∥₁_elim (f.queued j m) (hlevel props) (λ p. complete (s.closed p.0 h (omega (arith, p.1)) (subst (λ z. Uses e z h) (sym p.2) (o, l, q))) r)
 
     all_marked : MarksReach e i f.marks.now
     all_marked j l =
         let m : j < length f.marks.now = omega (arith, s.size) in
         ⊎_elim
-        (λ q. inr (q, λ r. omega (arith, q, (complete s.start r).1)))
-        (λ q. inl (q, s.sound j (m, q)))
-        (s.queue.flags j m)
+        (λ (q : get_or f.marks.now j 0 ≡ 1). inl (q, s.sound j (m, q)))
+        (λ q. let zero : get_or f.marks.now j 0 ≡ 0 = omega (arith, f.flags j m) in inr (zero, λ r. q (complete s.start r).1))
+        (cases_eq (get_or f.marks.now j 0) 1)
 
     -- The marks as they are left.
     pub searching_all : (marks : List ℕ) → marks ≡ f.marks.now → MarksReach e i marks
@@ -108,6 +108,5 @@ module _ {V : Type 0} (e : Equations V) where
 
   -- A turn visits one more of those that can be found.
   pub turn_smaller : {i next : ℕ} {begin a b c : Found} → Searching i begin a → Visits a b (Some next) → Adds (Uses e next) b c → length c.marks.now - c.visited < length a.marks.now - a.visited
-  turn_smaller {next = next} {a = a} {c = c} s v adds =
-      let t : Adds (Uses e next) (record a { visited = a.visited + 1 }) c = subst (λ x. Adds (Uses e next) x c) v.2 adds in
-      omega (arith, v.0, found_most s.queue, t.lists.size, t.visited)
+  turn_smaller {a = a} s v t =
+      omega (arith, v.next.0, v.next.2, found_most a, t.lists.size, ap (λ x. length x.now) v.marks, t.visited)

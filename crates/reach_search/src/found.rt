@@ -1,7 +1,8 @@
 // The instances that a search has found, over a lent work list.
-ghost use Rattle.std.specs.Prelude.{◌≡◌, ◌↔◌, ◌<◌, length, IsTrue};
+ghost use Rattle.std.specs.Prelude.{◌≡◌, ℕ, ◌↔◌, ◌<◌, ◌≤◌, length, slice_index, IsTrue, EachIndex};
 ghost use Rattle.equations.specs.Reach.{Uses};
-ghost use Rattle.reach_search.specs.Queued.{Queued, Adds, Visits};
+ghost use Rattle.equations.specs.Rounds.{members};
+ghost use Rattle.reach_search.specs.Queued.{Marked, is_marked, HasPlace};
 
 use equations::System;
 
@@ -14,12 +15,19 @@ pub(crate) struct Found<'a> {
     pub(crate) count: usize,
     // How many of them were visited.
     pub(crate) visited: usize,
+    ghost room: { length marks.now ≤ length queue.now },
+    ghost flags: { EachIndex marks.now (λ j. slice_index marks.now j ≤ 1) },
+    // The queue has the marked instances, each once.
+    ghost marked: { (p : ℕ) → p < count → Marked marks.now (slice_index queue.now p) },
+    ghost queued: { (j : ℕ) → Marked marks.now j → HasPlace queue.now count j },
+    ghost once: { count ≡ members (is_marked marks.now) (length marks.now) },
 }
 
-impl Found<'_> {
+impl<'a> Found<'a> {
+    ghost use Rattle.reach_search.specs.Additions.{Adds, Visits};
+
     // The next instance in the queue, which is then a visited one.
     pub(crate) fn next(&mut self) -> Option<usize>
-        requires { Queued self.old }
         ensures { Visits self.old self.new result }
     {
         if self.visited >= self.count {
@@ -32,21 +40,19 @@ impl Found<'_> {
 
     // Adds an instance, unless it is found already.
     pub(crate) fn add(&mut self, instance: usize)
-        requires within { instance < length self.old.marks.now }
-        requires queue { Queued self.old }
+        requires { instance < length self.old.marks.now }
         ensures { Adds (λ j. j ≡ instance) self.old self.new }
     {
         if !is_marked(self.marks[instance]) {
-            self.marks[instance] = 1;
             self.queue[self.count] = instance;
+            self.marks[instance] = 1;
             self.count += 1;
         }
     }
 
     // Adds the operands of an instance.
     pub(crate) fn add_operands<S: System>(&mut self, system: &S, instance: usize)
-        requires size { length self.old.marks.now ≡ (S.System.equations system.now).size }
-        requires queue { Queued self.old }
+        requires { length self.old.marks.now ≡ (S.System.equations system.now).size }
         ensures { Adds (Uses (S.System.equations system.now) instance) self.old self.new }
     {
         for index in 0..system.operand_count(instance) {

@@ -1,13 +1,9 @@
 -- A turn adds the operand that it reads.
-use Rattle.std.proofs.Common.{◌+◌, sym, ◌∙◌, subst, arith}
-use Rattle.reach_search.specs.Queued.{Adds}
+use Rattle.std.proofs.Common.{◌+◌, sym, ◌∙◌, subst}
+use Rattle.reach_search.specs.Additions.{Adds}
 use Rattle.reach_search.proofs.Searching.{UsesBelow, adds_operand, adds_dangling}
 use Rattle.reach_search.proofs.found.Found.add_operands.Goals as goal
 use Rattle.reach_search.proofs.found.Found.add_operands.Goals.{in-Ok, in_default}
-
-pub add-requires-clause-within : goal.add-requires-clause-within
-add-requires-clause-within g c =
-    omega (arith, (g.S.System.lawful c.args.system.now).operand_within _ _ _ (sym c.operand.ensures ∙ c.in-Ok.is), c.requires.size, c.loop-index.invariant.lists.size)
 
 pub loop-index-preserved : goal.loop-index-preserved
 loop-index-preserved g c =

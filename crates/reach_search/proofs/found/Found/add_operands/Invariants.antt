@@ -1,5 +1,5 @@
 -- The operands before the turn's are added.
-use Rattle.reach_search.specs.Queued.{Adds}
+use Rattle.reach_search.specs.Additions.{Adds}
 use Rattle.reach_search.proofs.Searching.{UsesBelow}
 use Rattle.reach_search.proofs.found.Found.add_operands.Given as goal
 

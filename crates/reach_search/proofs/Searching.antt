@@ -2,6 +2,7 @@
 use Rattle.std.proofs.Common.{◌≡◌, ℕ, ◌+◌, ◌-◌, ◌<◌, ◌≤◌, ◌⊎◌, List, length, get_or, Ok, Err, Some, sym, refl, ap, ◌∙◌, subst, inl, inr, ⊎_elim, arith}
 use Rattle.std.proofs.lemmas.Bool.{cases_lt, cases_eq}
 use Rattle.std.proofs.Math.Logic.{∥∥₁_elim}
+use Rattle.std.specs.Borrow.{MutBor}
 use Rattle.std.proofs.Props.{props}
 use Rattle.references.specs.declared.Dangling.{Dangling}
 use Rattle.equations.specs.Equations.{Equations}
@@ -11,7 +12,7 @@ use Rattle.table_model.proofs.Lowest.{never}
 use Rattle.reach_search.specs.declared.found.Found.{Found}
 use Rattle.reach_search.specs.Searched.{MarksReach}
 use Rattle.reach_search.specs.Queued.{Marked}
-use Rattle.reach_search.specs.Additions.{queued, SameLists, Adds, Visits}
+use Rattle.reach_search.specs.Additions.{queued, Begins, SameLists, Adds, Visits}
 use Rattle.reach_search.proofs.Adding.{found_most, adds_none, adds_both}
 
 module _ {V : Type 0} (e : Equations V) where
@@ -48,15 +49,15 @@ module _ {V : Type 0} (e : Equations V) where
     pub closed : (p j : ℕ) → p < f.visited → Uses e (queued f p) j → Marked f.marks.now j
 
   -- At first i is found alone.
-  pub searching_none : {i : ℕ} {before f : Found} → length before.marks.now ≡ e.size → before.visited ≡ 0 → ((j : ℕ) → j < length before.marks.now → get_or before.marks.now j 0 ≡ 0) → Adds (λ j. j ≡ i) before f → Searching i f f
-  searching_none {i} {before} size zero none a =
+  pub searching_none : {i : ℕ} {x y : MutBor (List ℕ)} {before f : Found} → length x.now ≡ e.size → Begins x y before → Adds (λ j. j ≡ i) before f → Searching i f f
+  searching_none {i} {before = before} size begins a =
       record {
         lists = record { marks = refl; queue = refl; size = refl };
-        size = a.lists.size ∙ size;
+        size = a.lists.size ∙ begins.size ∙ size;
         start = a.all i (λ _. i);
         sound = λ j m.
-            ⊎_elim (λ (k : Marked before.marks.now j). absurd (omega (arith, none j k.0, k.1))) (λ q. subst (Reach e i) (sym q) here) (a.only j m);
-        closed = λ p j k. absurd (omega (arith, a.visited, zero));
+            ⊎_elim (λ (k : Marked before.marks.now j). absurd (omega (arith, begins.none j k.0, k.1))) (λ q. subst (Reach e i) (sym q) here) (a.only j m);
+        closed = λ p j k. absurd (omega (arith, a.visited, begins.visited));
       }
 
   -- The next instance in the queue is visited, and its operands are added.

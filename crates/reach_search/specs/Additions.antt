@@ -1,11 +1,20 @@
 -- What each step of a search does to the instances found. Assumes nothing.
-use Rattle.std.specs.Prelude.{◌≡◌, ℕ, ◌+◌, ◌<◌, ◌≤◌, ◌⊎◌, length, Option, slice_index, MatchOption}
+use Rattle.std.specs.Prelude.{◌≡◌, ℕ, ◌+◌, ◌<◌, ◌≤◌, ◌⊎◌, List, length, Option, slice_index, MatchOption}
+use Rattle.std.specs.Borrow.{MutBor}
 use Rattle.reach_search.specs.declared.found.Found.{Found}
 use Rattle.reach_search.specs.Queued.{Marked}
 
 -- Place p of the queue.
 abbrev pub queued : Found → ℕ → ℕ
 queued f p = slice_index f.queue.now p
+
+-- None is found yet. The marks and the queue are a and b.
+pub record Begins (a b : MutBor (List ℕ)) (f : Found) : Type 0 where
+  pub marks : f.marks.ghost_name ≡ a.ghost_name
+  pub queue : f.queue.ghost_name ≡ b.ghost_name
+  pub size : length f.marks.now ≡ length a.now
+  pub none : (j : ℕ) → j < length f.marks.now → slice_index f.marks.now j ≡ 0
+  pub visited : f.visited ≡ 0
 
 -- The marks and the queue are the same lent lists, with as many marks.
 pub record SameLists (before after : Found) : Type 0 where

@@ -8,13 +8,13 @@ use equations::System;
 
 // A mark for each instance, 1 for those found and else 0, and the queue of those found, in the order in which they were.
 #[derive(Drop)]
-pub(crate) struct Found<'a> {
-    pub(crate) marks: &'a mut [usize],
-    pub(crate) queue: &'a mut [usize],
+pub(crate) struct Found<'m, 'q> {
+    marks: &'m mut [usize],
+    queue: &'q mut [usize],
     // How many are in the queue.
-    pub(crate) count: usize,
+    count: usize,
     // How many of them were visited.
-    pub(crate) visited: usize,
+    visited: usize,
     ghost room: { length marks.now ≤ length queue.now },
     ghost flags: { EachIndex marks.now (λ j. slice_index marks.now j ≤ 1) },
     // The queue has the marked instances, each once.
@@ -23,8 +23,22 @@ pub(crate) struct Found<'a> {
     ghost once: { count ≡ members (is_marked marks.now) (length marks.now) },
 }
 
-impl<'a> Found<'a> {
-    ghost use Rattle.reach_search.specs.Additions.{Adds, Visits};
+impl<'m, 'q> Found<'m, 'q> {
+    ghost use Rattle.reach_search.specs.Additions.{Begins, Adds, Visits};
+
+    // None is found.
+    pub(crate) fn new(marks: &'m mut [usize], queue: &'q mut [usize]) -> Found<'m, 'q>
+        requires { length marks.old ≤ length queue.old }
+        ensures { Begins marks.entry queue.entry result }
+    {
+        marks.fill(0);
+        Found {
+            marks,
+            queue,
+            count: 0,
+            visited: 0,
+        }
+    }
 
     // The next instance in the queue, which is then a visited one.
     pub(crate) fn next(&mut self) -> Option<usize>

@@ -37,13 +37,7 @@ fn mark_reach<S: System>(system: &S, marks: &mut [usize], queue: &mut [usize], i
     requires within { instance < (S.System.equations system.now).size }
     ensures { MarksReach (S.System.equations system.now) instance marks.new }
 {
-    marks.fill(0);
-    let mut found = Found {
-        marks,
-        queue,
-        count: 0,
-        visited: 0,
-    };
+    let mut found = Found::new(marks, queue);
     found.add(instance);
     while let Some(next) = found.next() {
         found.add_operands(system, next);

@@ -1,5 +1,6 @@
 -- The lowest dangling operand, by instances and operands in ascending number. Assumes nothing.
-use Rattle.std.proofs.Common.{◌≡◌, ℕ, ◌+◌, ◌*◌, ◌<◌, ◌≤◌, List, length, Ok, Err, Result, sym, refl, subst, inl, inr, ⊎_elim, arith}
+use Rattle.std.proofs.lemmas.List.{get_or_append_left}
+use Rattle.std.proofs.Common.{◌≡◌, ℕ, ◌+◌, ◌*◌, ◌<◌, ◌≤◌, List, length, ◌++◌, Ok, Err, Result, sym, refl, subst, inl, inr, ⊎_elim, arith}
 use Rattle.std.proofs.lemmas.Bool.{cases_lt, cases_order}
 use Rattle.references.specs.declared.Dangling.{Dangling}
 use Rattle.equations.specs.Equations.{Equations, Lawful}
@@ -67,19 +68,20 @@ module _ {V : Type 0} (e : Equations V) where
       }
 
   -- The marked instances are those in reach.
-  module _ {bot : V} {le : V → V → Type 0} (lawful : Lawful bot le e) (i : ℕ) (l : i < e.size) (work : List ℕ) (marks : MarksReach e i work) where
-    marked : (j : ℕ) → Reach e i j → Marked e.size work j
+  module _ {bot : V} {le : V → V → Type 0} (lawful : Lawful bot le e) (i : ℕ) (l : i < e.size) (marks : List ℕ) (size : length marks ≡ e.size) (reach : MarksReach e i marks) where
+    marked : (j : ℕ) → Reach e i j → Marked marks j
     marked j r =
         let m = reach_within e lawful l r in
-        (m, ⊎_elim (λ h. h.0) (λ h. absurd (h.1 r)) (marks j m))
+        (omega (arith, m, size), ⊎_elim (λ h. h.0) (λ h. absurd (h.1 r)) (reach j m))
 
-    reached : (j : ℕ) → Marked e.size work j → Reach e i j
-    reached j m = ⊎_elim (λ h. h.1) (λ h. absurd (omega (arith, h.0, m.1))) (marks j m.0)
+    reached : (j : ℕ) → Marked marks j → Reach e i j
+    reached j m =
+        ⊎_elim (λ h. h.1) (λ h. absurd (omega (arith, h.0, m.1))) (reach j (omega (arith, m.0, size)))
 
-    pub whole_from_marks : NoneDangles e (Marked e.size work) → Whole e i
+    pub whole_from_marks : NoneDangles e (Marked marks) → Whole e i
     whole_from_marks none w = none w.0 w.1 w.2 (marked w.0 w.3) w.4
 
-    pub lowest_from_marks : (d : DanglingOperand) → LowestOf e (Marked e.size work) d → LowestDangling e i d
+    pub lowest_from_marks : (d : DanglingOperand) → LowestOf e (Marked marks) d → LowestDangling e i d
     lowest_from_marks d f =
         record {
           reaches = reached d.instance f.member;
@@ -87,13 +89,13 @@ module _ {V : Type 0} (e : Equations V) where
           lowest = λ j o x r. f.lowest j o x (marked j r);
         }
 
-  -- What the search answers where it is not refused.
-  pub searched : (i : ℕ) (before after : List ℕ) (r : Result Unit TableFault) → 2 * e.size ≤ length before → i < e.size → MarksReach e i after → TellsWhole e i r → length after ≡ length before → Searched e i before after r
-  searched i before after r room l marks tells same =
+  -- What the search answers where it is not refused: the work list has the marks, then the queue.
+  pub searched : (i : ℕ) (before marks queue : List ℕ) (r : Result Unit TableFault) → 2 * e.size ≤ length before → i < e.size → length marks ≡ e.size → MarksReach e i marks → TellsWhole e i r → length (marks ++ queue) ≡ length before → Searched e i before (marks ++ queue) r
+  searched i before marks queue r room l size reach tells same =
       record {
         short = λ s. absurd (omega arith);
         none = λ _ s. absurd (omega arith);
-        marks = λ _ _. marks;
+        marks = λ _ _ j m. let within : j < length marks = omega arith in rw get_or_append_left (reach j m);
         tells = λ _ _. tells;
         length = same;
       }

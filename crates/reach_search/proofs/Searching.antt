@@ -1,14 +1,19 @@
 -- A search marks what is in reach. Assumes nothing.
-use Rattle.std.proofs.Common.{◌≡◌, ℕ, ◌+◌, ◌<◌, ◌≤◌, ◌⊎◌, List, length, get_or, Ok, Err, sym, ap, ◌∙◌, subst, inl, inr, ⊎_elim, arith}
-use Rattle.std.proofs.lemmas.Bool.{cases_lt}
+use Rattle.std.proofs.Common.{◌≡◌, ℕ, ◌+◌, ◌-◌, ◌<◌, ◌≤◌, ◌⊎◌, List, length, get_or, Ok, Err, Some, sym, refl, ap, ◌∙◌, subst, inl, inr, ⊎_elim, arith}
+use Rattle.std.proofs.lemmas.Bool.{cases_lt, cases_eq}
+use Rattle.std.proofs.Math.Logic.{∥∥₁_elim}
+use Rattle.std.specs.Borrow.{MutBor}
+use Rattle.std.proofs.Props.{props}
 use Rattle.references.specs.declared.Dangling.{Dangling}
 use Rattle.equations.specs.Equations.{Equations}
 use Rattle.equations.specs.Reach.{Reach, here, along, Uses}
 use Rattle.equations.proofs.Paths.{reach_trans, reach_uses}
 use Rattle.table_model.proofs.Lowest.{never}
+use Rattle.reach_search.specs.declared.found.Found.{Found}
 use Rattle.reach_search.specs.Searched.{MarksReach}
-use Rattle.reach_search.specs.Queued.{Marked, queued, Queued, Adds}
-use Rattle.reach_search.proofs.Adding.{found_most, adds_both}
+use Rattle.reach_search.specs.Queued.{Marked}
+use Rattle.reach_search.specs.Additions.{queued, Begins, SameLists, Adds, Visits}
+use Rattle.reach_search.proofs.Adding.{found_most, adds_none, adds_both}
 
 module _ {V : Type 0} (e : Equations V) where
   -- j is one of the first k operands of i.
@@ -26,78 +31,83 @@ module _ {V : Type 0} (e : Equations V) where
   uses_still i k j u = (u.0, omega (arith, u.1), u.2)
 
   -- Operand k of i is added to the ones before it.
-  pub adds_operand : {n i k j : ℕ} {a b c : List ℕ} {x y z : ℕ} → Adds n (UsesBelow i k) a x b y → e.operand i k ≡ Ok j → Adds n (λ h. h ≡ j) b y c z → Adds n (UsesBelow i (k + 1)) a x c z
+  pub adds_operand : {i k j : ℕ} {a b c : Found} → Adds (UsesBelow i k) a b → e.operand i k ≡ Ok j → Adds (λ h. h ≡ j) b c → Adds (UsesBelow i (k + 1)) a c
   adds_operand {i = i} {k = k} s q t =
       adds_both s t (uses_still i k) (λ h r. (k, omega arith, q ∙ ap Ok (sym r))) (λ h u. ⊎_elim inl (λ at. inr (cc)) (uses_cases i k h u))
 
   -- A dangling one is passed over.
-  pub adds_dangling : {n i k : ℕ} {d : Dangling} {a b : List ℕ} {x y : ℕ} → Adds n (UsesBelow i k) a x b y → e.operand i k ≡ Err d → Adds n (UsesBelow i (k + 1)) a x b y
+  pub adds_dangling : {i k : ℕ} {d : Dangling} {a b : Found} → Adds (UsesBelow i k) a b → e.operand i k ≡ Err d → Adds (UsesBelow i (k + 1)) a b
   adds_dangling {i = i} {k = k} s q =
-      record {
-        queue = s.queue;
-        all = λ h u. ⊎_elim (s.all h) (λ at. absurd (never (cc))) (uses_cases i k h u);
-        only = λ h m. ⊎_elim inl (λ u. inr (uses_still i k h u)) (s.only h m);
-        stay = s.stay;
-        earlier = s.earlier;
-        more = s.more;
-      }
+      adds_both s (adds_none {P = λ j. ⊥} _ (λ j n. absurd n)) (uses_still i k) (λ j n. absurd n) (λ h u. ⊎_elim inl (λ at. absurd (never (cc))) (uses_cases i k h u))
 
-  pub adds_all : {n i k : ℕ} {a b : List ℕ} {x y : ℕ} → k ≡ e.count i → Adds n (UsesBelow i k) a x b y → Adds n (Uses e i) a x b y
-  adds_all {n} {i} {a = a} {b = b} {x = x} {y = y} p s = subst (λ m. Adds n (UsesBelow i m) a x b y) p s
-
-  -- The search from i: the instances found are in reach, and the operands of the first ones in the queue are found.
-  pub record Searching (i : ℕ) (work : List ℕ) (visited found : ℕ) : Type 0 where
-    pub queue : Queued e.size work found
-    pub start : Marked e.size work i
-    pub sound : (j : ℕ) → Marked e.size work j → Reach e i j
-    pub closed : (p j : ℕ) → p < visited → Uses e (queued e.size work p) j → Marked e.size work j
-
-  -- The next place of the queue stands in the work list.
-  pub next_within : {i : ℕ} {work : List ℕ} {visited found : ℕ} → Searching i work visited found → visited < found → (visited < e.size) × (e.size + visited < length work)
-  next_within s l = let most = found_most s.queue in (omega arith, omega (arith, s.queue.room))
+  -- The search from i, over the lists that it began with: the instances found are in reach, and the operands of those visited are found.
+  pub record Searching (i : ℕ) (begin f : Found) : Type 0 where
+    pub lists : SameLists begin f
+    pub size : length f.marks.now ≡ e.size
+    pub start : Marked f.marks.now i
+    pub sound : (j : ℕ) → Marked f.marks.now j → Reach e i j
+    pub closed : (p j : ℕ) → p < f.visited → Uses e (queued f p) j → Marked f.marks.now j
 
   -- At first i is found alone.
-  pub searching_none : {i : ℕ} {before work : List ℕ} {found : ℕ} → ((j : ℕ) → j < e.size → get_or before j 0 ≡ 0) → Adds e.size (λ j. j ≡ i) before 0 work found → Searching i work 0 found
-  searching_none {i} {before} none a =
+  pub searching_none : {i : ℕ} {x y : MutBor (List ℕ)} {before f : Found} → length x.now ≡ e.size → Begins x y before → Adds (λ j. j ≡ i) before f → Searching i f f
+  searching_none {i} {before = before} size begins a =
       record {
-        queue = a.queue;
+        lists = record { marks = refl; queue = refl; size = refl };
+        size = a.lists.size ∙ begins.size ∙ size;
         start = a.all i (λ _. i);
         sound = λ j m.
-            ⊎_elim (λ (k : Marked e.size before j). absurd (omega (arith, none j k.0, k.1))) (λ q. subst (Reach e i) (sym q) here) (a.only j m);
-        closed = λ p j k. absurd (omega arith);
+            ⊎_elim (λ (k : Marked before.marks.now j). absurd (omega (arith, begins.none j k.0, k.1))) (λ q. subst (Reach e i) (sym q) here) (a.only j m);
+        closed = λ p j k. absurd (omega (arith, a.visited, begins.visited));
       }
 
-  -- The operands of the next instance in the queue are added.
-  pub searching_more : {i next : ℕ} {before work : List ℕ} {visited old found : ℕ} → Searching i before visited old → visited < old → next ≡ queued e.size before visited → Adds e.size (Uses e next) before old work found → Searching i work (visited + 1) found
-  searching_more {i = i} {before = before} {visited = visited} {old = old} s l n a =
+  -- The next instance in the queue is visited, and its operands are added.
+  pub searching_more : {i next : ℕ} {begin a b c : Found} → Searching i begin a → Visits a b (Some next) → Adds (Uses e next) b c → Searching i begin c
+  searching_more {i} {next} {begin} {a} {b} {c} s v t =
+      let same : b.marks.now ≡ a.marks.now = ap (λ x. x.now) v.marks in
+      let stay : (j : ℕ) → Marked a.marks.now j → Marked c.marks.now j = λ j k. t.stay j (subst (λ x. Marked x j) (sym same) k) in
+      let earlier : (p : ℕ) → p < a.count → queued c p ≡ queued a p = λ p l. t.earlier p (omega (arith, v.count)) ∙ ap (λ x. get_or x.now p 0) v.queue in
       record {
-        queue = a.queue;
-        start = a.stay i s.start;
+        lists =
+            record {
+              marks = t.lists.marks ∙ ap (λ x. x.ghost_name) v.marks ∙ s.lists.marks;
+              queue = t.lists.queue ∙ ap (λ x. x.ghost_name) v.queue ∙ s.lists.queue;
+              size = t.lists.size ∙ ap length same ∙ s.lists.size;
+            };
+        size = t.lists.size ∙ ap length same ∙ s.size;
+        start = stay i s.start;
         sound = λ j m.
-            let r = subst (Reach e i) (sym n) (s.sound (queued e.size before visited) (s.queue.marks visited l)) in
-            ⊎_elim (s.sound j) (λ u. reach_trans r (reach_uses u)) (a.only j m);
+            let r = subst (Reach e i) (sym v.next.1) (s.sound (queued a a.visited) (a.marked a.visited v.next.0)) in
+            ⊎_elim (λ k. s.sound j (subst (λ x. Marked x j) same k)) (λ u. reach_trans r (reach_uses u)) (t.only j m);
         closed = λ p j k u.
-            let same : p < old → Uses e (queued e.size before p) j = λ m. subst (λ z. Uses e z j) (a.earlier p m) u in
+            let same : p < a.count → Uses e (queued a p) j = λ m. subst (λ z. Uses e z j) (earlier p m) u in
             ⊎_elim
-            (λ (m : p < visited). a.stay j (s.closed p j m (same (omega arith))))
-            (λ (m : visited ≤ p).
-            let is : p ≡ visited = omega arith in
-            a.all j (subst (λ z. Uses e z j) (ap (queued e.size before) is ∙ sym n) (same (omega arith))))
-            (cases_lt p visited);
+            (λ (m : p < a.visited). stay j (s.closed p j m (same (omega (arith, v.next.0)))))
+            (λ (m : a.visited ≤ p).
+            let is : p ≡ a.visited = omega (arith, t.visited, v.next.2) in
+            t.all j (subst (λ z. Uses e z j) (ap (queued a) is ∙ sym v.next.1) (same (omega (arith, v.next.0)))))
+            (cases_lt p a.visited);
       }
 
   -- At the end, what is in reach of a found instance is found.
-  module _ {i : ℕ} {work : List ℕ} {visited found : ℕ} (s : Searching i work visited found) (all : found ≤ visited) where
-    complete : {j k : ℕ} → Marked e.size work j → Reach e j k → Marked e.size work k
+  module _ {i : ℕ} {begin f : Found} (s : Searching i begin f) (all : f.count ≤ f.visited) where
+    complete : {j k : ℕ} → Marked f.marks.now j → Reach e j k → Marked f.marks.now k
     complete m here = m
-    complete {j} m (along {j = h} o l q r) =
-        let p = s.queue.place j m in
-        let u : Uses e (queued e.size work p.0) h = subst (λ z. Uses e z h) (sym p.2) (o, l, q) in
-        complete (s.closed p.0 h (omega (arith, p.1)) u) r
+    complete {j} {k} m (along {j = h} o l q r) =
+        ∥∥₁_elim (f.queued j m) (hlevel props) (λ p. complete (s.closed p.0 h (omega (arith, p.1)) (subst (λ z. Uses e z h) (sym p.2) (o, l, q))) r)
 
-    pub searching_all : MarksReach e i work
-    searching_all j l =
+    all_marked : MarksReach e i f.marks.now
+    all_marked j l =
+        let m : j < length f.marks.now = omega (arith, s.size) in
         ⊎_elim
-        (λ q. inr (q, λ r. omega (arith, q, (complete s.start r).1)))
-        (λ q. inl (q, s.sound j (l, q)))
-        (s.queue.flags j l)
+        (λ (q : get_or f.marks.now j 0 ≡ 1). inl (q, s.sound j (m, q)))
+        (λ q. let zero : get_or f.marks.now j 0 ≡ 0 = omega (arith, f.flags j m) in inr (zero, λ r. q (complete s.start r).1))
+        (cases_eq (get_or f.marks.now j 0) 1)
+
+    -- The marks as they are left.
+    pub searching_all : (marks : List ℕ) → marks ≡ f.marks.now → MarksReach e i marks
+    searching_all marks last = subst (MarksReach e i) (sym last) all_marked
+
+  -- A turn visits one more of those that can be found.
+  pub turn_smaller : {i next : ℕ} {begin a b c : Found} → Searching i begin a → Visits a b (Some next) → Adds (Uses e next) b c → length c.marks.now - c.visited < length a.marks.now - a.visited
+  turn_smaller {a = a} s v t =
+      omega (arith, v.next.0, v.next.2, found_most a, t.lists.size, ap (λ x. length x.now) v.marks, t.visited)

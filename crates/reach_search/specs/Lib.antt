@@ -1,3 +1,4 @@
 pub mod Searched
 pub mod Queued
+pub mod Additions
 pub mod Dangles

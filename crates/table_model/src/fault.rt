@@ -4,16 +4,18 @@ ghost use Rattle.table_model.specs.Faults.{number_of};
 ghost use Rattle.table_model.specs.declared.fault.TableFault.TheVariants.{Dangling};
 
 use references::Dangling;
+use std::error::Error;
+use std::fmt;
 
 // A dangling operand of an instance.
-#[derive(Clone, Copy)]
+#[derive(Clone, Copy, Debug, PartialEq, Eq)]
 pub struct DanglingOperand {
     pub instance: usize,
     pub operand: usize,
     pub dangling: Dangling,
 }
 
-#[derive(Clone, Copy)]
+#[derive(Clone, Copy, Debug, PartialEq, Eq)]
 pub enum TableFault {
     // The rows or the work list are too short.
     TooShort,
@@ -51,6 +53,7 @@ impl TableFault {
     }
 }
 
+// By hand, since the contracts name the fault that `?` makes.
 impl From<DanglingOperand> for TableFault {
     ghost from_gives = { λ d r. r ≡ Dangling d };
 
@@ -58,3 +61,26 @@ impl From<DanglingOperand> for TableFault {
         TableFault::Dangling(dangling)
     }
 }
+
+impl fmt::Display for TableFault {
+    fn fmt<W: fmt::Write>(&self, f: &mut fmt::Formatter<W>) -> fmt::Result {
+        match self {
+            TableFault::TooShort => f.write_str("the rows or the work list are too short"),
+            TableFault::TooHigh => f.write_str("the lattice is too high"),
+            TableFault::NoInstance => f.write_str("there is no such instance"),
+            TableFault::NotIdle => f.write_str("the table is not idle"),
+            TableFault::Dangling(
+                DanglingOperand {
+                    instance,
+                    operand,
+                    ..
+                },
+            ) => write!(f, "operand {operand} of instance {instance} dangles"),
+            TableFault::AlreadyFinal => f.write_str("the instance is already final"),
+            TableFault::NotFinal => f.write_str("the row is not final"),
+            TableFault::NoFit => f.write_str("the session does not fit the table"),
+        }
+    }
+}
+
+impl Error for TableFault {}

@@ -11,7 +11,7 @@ pub enum Mark {
     Final,
 }
 
-#[derive(Clone, Copy)]
+#[derive(Clone, Copy, Debug, PartialEq, Eq)]
 pub struct Row<V> {
     pub mark: Mark,
     pub value: V,

@@ -5,4 +5,4 @@ use Rattle.reach_search.proofs.check_whole.Given as goal
 
 abbrev pub invariant-loop-instance : goal.invariant-loop-instance
 invariant-loop-instance g l =
-    NoneOfFirst (g.S.System.equations l.system) (Marked (g.S.System.equations l.system).size l.marks) l.instance
+    NoneOfFirst (g.S.System.equations l.system) (Marked l.marks) l.instance

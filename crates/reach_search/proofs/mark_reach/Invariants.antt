@@ -1,11 +1,11 @@
--- The search from the instance, with the first ones in the queue visited.
-use Rattle.std.proofs.Common.{◌-◌}
+-- The search from the instance.
+use Rattle.std.proofs.Common.{◌-◌, length}
 use Rattle.reach_search.proofs.Searching.{Searching}
 use Rattle.reach_search.proofs.mark_reach.Given as goal
 
-abbrev pub invariant-loop-visited : goal.invariant-loop-visited
-invariant-loop-visited g l =
-    Searching (g.S.System.equations l.system) l.instance l.work l.visited l.found
+abbrev pub invariant-loop-next : goal.invariant-loop-next
+invariant-loop-next g l =
+    Searching (g.S.System.equations l.system) l.instance l.initial.found l.found
 
-abbrev pub decreases-loop-visited : goal.decreases-loop-visited
-decreases-loop-visited g l = l.size - l.visited
+abbrev pub decreases-loop-next : goal.decreases-loop-next
+decreases-loop-next g l = length l.found.marks.now - l.found.visited

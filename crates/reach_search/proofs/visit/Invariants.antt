@@ -1,8 +1,0 @@
--- The operands before the turn's are added.
-use Rattle.reach_search.specs.Queued.{Adds}
-use Rattle.reach_search.proofs.Searching.{UsesBelow}
-use Rattle.reach_search.proofs.visit.Given as goal
-
-abbrev pub invariant-loop-index : goal.invariant-loop-index
-invariant-loop-index g l =
-    Adds (g.S.System.equations l.system).size (UsesBelow (g.S.System.equations l.system) l.instance l.index) l.initial.work l.initial.found l.work l.found

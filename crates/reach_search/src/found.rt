@@ -1,0 +1,85 @@
+// The instances that a search has found, over a lent work list.
+ghost use Rattle.std.specs.Prelude.{◌≡◌, ℕ, ◌↔◌, ◌<◌, ◌≤◌, length, slice_index, IsTrue, EachIndex};
+ghost use Rattle.equations.specs.Reach.{Uses};
+ghost use Rattle.equations.specs.Rounds.{members};
+ghost use Rattle.reach_search.specs.Queued.{Marked, is_marked, HasPlace};
+
+use equations::System;
+
+// A mark for each instance, 1 for those found and else 0, and the queue of those found, in the order in which they were.
+#[derive(Drop)]
+pub(crate) struct Found<'m, 'q> {
+    marks: &'m mut [usize],
+    queue: &'q mut [usize],
+    // How many are in the queue.
+    count: usize,
+    // How many of them were visited.
+    visited: usize,
+    ghost room: { length marks.now ≤ length queue.now },
+    ghost flags: { EachIndex marks.now (λ j. slice_index marks.now j ≤ 1) },
+    // The queue has the marked instances, each once.
+    ghost marked: { (p : ℕ) → p < count → Marked marks.now (slice_index queue.now p) },
+    ghost queued: { (j : ℕ) → Marked marks.now j → HasPlace queue.now count j },
+    ghost once: { count ≡ members (is_marked marks.now) (length marks.now) },
+}
+
+impl<'m, 'q> Found<'m, 'q> {
+    ghost use Rattle.reach_search.specs.Additions.{Begins, Adds, Visits};
+
+    // None is found.
+    pub(crate) fn new(marks: &'m mut [usize], queue: &'q mut [usize]) -> Found<'m, 'q>
+        requires { length marks.old ≤ length queue.old }
+        ensures { Begins marks.entry queue.entry result }
+    {
+        marks.fill(0);
+        Found {
+            marks,
+            queue,
+            count: 0,
+            visited: 0,
+        }
+    }
+
+    // The next instance in the queue, which is then a visited one.
+    pub(crate) fn next(&mut self) -> Option<usize>
+        ensures { Visits self.old self.new result }
+    {
+        if self.visited >= self.count {
+            return None;
+        }
+        let instance = self.queue[self.visited];
+        self.visited += 1;
+        Some(instance)
+    }
+
+    // Adds an instance, unless it is found already.
+    pub(crate) fn add(&mut self, instance: usize)
+        requires { instance < length self.old.marks.now }
+        ensures { Adds (λ j. j ≡ instance) self.old self.new }
+    {
+        if !is_marked(self.marks[instance]) {
+            self.queue[self.count] = instance;
+            self.marks[instance] = 1;
+            self.count += 1;
+        }
+    }
+
+    // Adds the operands of an instance.
+    pub(crate) fn add_operands<S: System>(&mut self, system: &S, instance: usize)
+        requires { length self.old.marks.now ≡ (S.System.equations system.now).size }
+        ensures { Adds (Uses (S.System.equations system.now) instance) self.old self.new }
+    {
+        for index in 0..system.operand_count(instance) {
+            if let Ok(operand) = system.operand(instance, index) {
+                self.add(operand);
+            }
+        }
+    }
+}
+
+// Whether a mark is that of an instance found.
+pub(crate) fn is_marked(mark: usize) -> bool
+    ensures { IsTrue result ↔ mark ≡ 1 }
+{
+    mark == 1
+}

@@ -1,15 +1,13 @@
 -- The lowest dangling operand, by instances and operands in ascending number. Assumes nothing.
 use Rattle.std.proofs.lemmas.List.{get_or_append_left}
-use Rattle.std.proofs.Common.{◌≡◌, ℕ, ◌+◌, ◌*◌, ◌<◌, ◌≤◌, List, length, ◌++◌, Ok, Err, Result, sym, refl, subst, inl, inr, ⊎_elim, arith}
-use Rattle.std.proofs.lemmas.Bool.{cases_lt, cases_order}
+use Rattle.std.proofs.Common.{◌≡◌, ℕ, ◌*◌, ◌<◌, ◌≤◌, List, length, ◌++◌, Err, Result, ⊎_elim, arith}
 use Rattle.references.specs.declared.Dangling.{Dangling}
 use Rattle.equations.specs.Equations.{Equations, Lawful}
-use Rattle.equations.specs.Reach.{Reach, DanglesAt, Whole}
+use Rattle.equations.specs.Reach.{Reach, Whole}
 use Rattle.equations.proofs.Paths.{reach_within}
 use Rattle.table_model.specs.declared.fault.DanglingOperand.{DanglingOperand}
 use Rattle.table_model.specs.declared.fault.TableFault.{TableFault}
 use Rattle.table_model.specs.Calls.{LowestDangling}
-use Rattle.table_model.proofs.Lowest.{never}
 use Rattle.reach_search.specs.Queued.{Marked}
 use Rattle.reach_search.specs.Searched.{MarksReach, TellsWhole, Searched}
 use Rattle.reach_search.specs.Dangles.{NoneDangles, LowestOf}
@@ -22,50 +20,6 @@ module _ {V : Type 0} (e : Equations V) where
   -- None of the first k instances is one of P with a dangling operand.
   abbrev pub NoneOfFirst : (ℕ → Type 0) → ℕ → Type 0
   NoneOfFirst P k = NoneDangles e (λ j. (j < k) × P j)
-
-  pub none_below_more : (i k j : ℕ) → NoneBelow i k → e.operand i k ≡ Ok j → NoneBelow i (k + 1)
-  none_below_more i k j none q o x l d =
-      ⊎_elim
-      (λ (m : o < k). none o x m d)
-      (λ (m : k ≤ o).
-      let is : o ≡ k = omega arith in
-      let at : e.operand i k ≡ Err x = subst (λ z. e.operand i z ≡ Err x) is d in
-      never (cc))
-      (cases_lt o k)
-
-  pub none_below_all : (i : ℕ) → NoneBelow i (e.count i) → NoneDangles e (λ j. j ≡ i)
-  none_below_all i none j o x q d =
-      let at : DanglesAt e i o x = subst (λ z. DanglesAt e z o x) q d in none o x at.0 at.1
-
-  pub first_operand : (i k : ℕ) (x : Dangling) → k < e.count i → NoneBelow i k → e.operand i k ≡ Err x → LowestOf e (λ j. j ≡ i) (record { instance = i; operand = k; dangling = x })
-  first_operand i k x l none q =
-      record {
-        member = refl;
-        dangles = (l, q);
-        lowest = λ j o y is d.
-            let at : DanglesAt e i o y = subst (λ z. DanglesAt e z o y) is d in
-            inr (sym is, ⊎_elim (λ m. absurd (none o y m at.1)) (λ m. m) (cases_lt o k));
-      }
-
-  -- The next instance is not one of P, or has no dangling operand.
-  pub none_of_first_more : (P : ℕ → Type 0) (k : ℕ) → NoneOfFirst P k → (P k → NoneDangles e (λ j. j ≡ k)) → NoneOfFirst P (k + 1)
-  none_of_first_more P k none one j o x m d =
-      ⊎_elim
-      (λ (l : j < k). none j o x (l, m.1) d)
-      (λ (l : k ≤ j). let is : j ≡ k = omega (arith, m.0) in one (subst P is m.1) j o x is d)
-      (cases_lt j k)
-
-  pub first_instance : (P : ℕ → Type 0) (k : ℕ) (d : DanglingOperand) → NoneOfFirst P k → P k → LowestOf e (λ j. j ≡ k) d → LowestOf e P d
-  first_instance P k d none h one =
-      record {
-        member = subst P (sym one.member) h;
-        dangles = one.dangles;
-        lowest = λ j o x m at.
-            ⊎_elim
-            (λ (is : j ≡ k). one.lowest j o x is at)
-            (⊎_elim (λ l. absurd (none j o x (l, m) at)) (λ (l : k < j). inl (omega (arith, one.member))))
-            (cases_order j k);
-      }
 
   -- The marked instances are those in reach.
   module _ {bot : V} {le : V → V → Type 0} (lawful : Lawful bot le e) (i : ℕ) (l : i < e.size) (marks : List ℕ) (size : length marks ≡ e.size) (reach : MarksReach e i marks) where

@@ -9,6 +9,6 @@ Marked marks j = (j < length marks) × (slice_index marks j ≡ 1)
 abbrev pub is_marked : List ℕ → ℕ → Bool
 is_marked marks j = slice_index marks j == 1
 
--- Instance j has one of the first places of the queue.
+-- Instance j has one of the first `count` places of the queue.
 abbrev pub HasPlace : List ℕ → ℕ → ℕ → Type 0
 HasPlace queue count j = ∥ ((p : ℕ) × (p < count) × (slice_index queue p ≡ j)) ∥₁

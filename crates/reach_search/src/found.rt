@@ -6,7 +6,8 @@ ghost use Rattle.reach_search.specs.Queued.{Marked, is_marked, HasPlace};
 
 use equations::System;
 
-// A mark for each instance, 1 for those found and else 0, and the queue of those found, in the order in which they were.
+// A mark for each instance, and the queue of those found, in the order in which they were.
+// A mark is a number, 1 for an instance that is found and else 0: the caller lends one list of numbers for marks and queue.
 #[derive(Drop)]
 pub(crate) struct Found<'m, 'q> {
     marks: &'m mut [usize],
@@ -15,6 +16,7 @@ pub(crate) struct Found<'m, 'q> {
     count: usize,
     // How many of them were visited.
     visited: usize,
+    // The queue has room for each instance, and each mark is 0 or 1.
     ghost room: { length marks.now ≤ length queue.now },
     ghost flags: { EachIndex marks.now (λ j. slice_index marks.now j ≤ 1) },
     // The queue has the marked instances, each once.
@@ -41,6 +43,7 @@ impl<'m, 'q> Found<'m, 'q> {
     }
 
     // The next instance in the queue, which is then a visited one.
+    #[tactic(auto, using(crate::proofs::Adding::found_most))]
     pub(crate) fn next(&mut self) -> Option<usize>
         ensures { Visits self.old self.new result }
     {
@@ -53,6 +56,7 @@ impl<'m, 'q> Found<'m, 'q> {
     }
 
     // Adds an instance, unless it is found already.
+    #[tactic(auto, using(crate::proofs::Adding::found_room))]
     pub(crate) fn add(&mut self, instance: usize)
         requires { instance < length self.old.marks.now }
         ensures { Adds (λ j. j ≡ instance) self.old self.new }

@@ -1,20 +1,10 @@
--- Where the instance is not found, the queue has room for it.
+-- An instance that is not found is put behind the queue, and then marked.
 use Rattle.std.proofs.Common.{◌≡◌, ℕ, Bool, true, false, ◌≢◌, arith}
-use Rattle.reach_search.proofs.Adding.{found_room, marks_size, queue_size, marked_behind, queued_behind, flags_after, marked_after, queued_after, once_after}
+use Rattle.reach_search.proofs.Adding.{marks_size, queue_size, marked_behind, queued_behind, flags_after, marked_after, queued_after, once_after}
 use Rattle.reach_search.proofs.found.Found.add.Goals as goal
 
 out : {mark : ℕ} {b : Bool} → (mark ≡ 1 → b ≡ true) → b ≡ false → mark ≢ 1
 out test failed same = let passed = test same in cc
-
-pub offset_bounds-self-self : goal.offset_bounds-self-self
-offset_bounds-self-self c =
-    let f = c.args.self.now in
-    omega (arith, found_room f _ c.requires (out c.is_marked.ensures.1 c.if-not-is_marked.true), f.room)
-
-pub bounds-self-self : goal.bounds-self-self
-bounds-self-self c =
-    let f = c.args.self.now in
-    omega (arith, found_room f _ c.requires (out c.is_marked.ensures.1 c.if-not-is_marked.true), f.room)
 
 pub invariant_of-self : goal.invariant_of-self
 invariant_of-self c =
@@ -27,11 +17,6 @@ invariant_of-self c =
       queued = queued_behind f c.requires new;
       once = f.once;
     }
-
-pub overflow_add-self : goal.overflow_add-self
-overflow_add-self c =
-    let f = c.args.self.now in
-    omega (arith, found_room f _ c.requires (out c.is_marked.ensures.1 c.if-not-is_marked.true), f.room)
 
 pub invariant_of-self-then-not-is_marked : goal.invariant_of-self-then-not-is_marked
 invariant_of-self-then-not-is_marked c =

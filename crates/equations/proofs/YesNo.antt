@@ -1,7 +1,8 @@
 -- Yes and no are a lattice of height 1, with no at the bottom. Assumes nothing.
-use Rattle.std.proofs.Common.{◌≡◌, ◌<◌, ◌≤◌, Bool, true, false, cond, ◌||◌, Decides, sym, refl, ⊎_elim, arith}
+use Rattle.std.proofs.Common.{◌≡◌, ◌<◌, ◌≤◌, Bool, true, false, cond, ◌||◌, sym, refl, ⊎_elim, arith}
 use mathlib.Core.Bool.{beq}
 use Rattle.std.proofs.lemmas.Bool.{false≢true, or_left, or_right, or_cases}
+use Rattle.std.specs.Cmp.{booleans_Decides}
 use Rattle.lattices.specs.Laws.{LatticeLaws}
 
 abbrev pub Implies : Bool → Bool → Type 0
@@ -11,12 +12,6 @@ implies_antisym : (x y : Bool) → Implies x y → Implies y x → x ≡ y
 implies_antisym true y p q = sym (p refl)
 implies_antisym false true p q = q refl
 implies_antisym false false p q = refl
-
-beq_decides : (x y : Bool) → Decides (beq x y) (x ≡ y)
-beq_decides true true = (λ t. refl, λ q. refl)
-beq_decides true false = (λ t. sym t, λ q. sym q)
-beq_decides false true = (λ t. t, λ q. q)
-beq_decides false false = (λ t. refl, λ q. refl)
 
 one_within : (x : Bool) → cond x 1 0 ≤ 1
 one_within true = omega arith
@@ -37,7 +32,7 @@ bool_laws =
       le_lub_left = or_left;
       le_lub_right = or_right;
       lub_le = λ x y z p q t. ⊎_elim p q (or_cases x y t);
-      same_decides = beq_decides;
+      same_decides = booleans_Decides;
       rank_within = one_within;
       rank_rises = one_rises;
     }

@@ -204,22 +204,13 @@ module _ {V : Type 0} {bot : V} {same : V → V → Bool} {e : Equations V} {s :
         refusal = λ f a. (refl, refl);
       }
 
--- The outcomes of making a table.
+-- A table that is made.
 module _ {V : Type 0} {bot : V} {same : V → V → Bool} {e : Equations V} {height : ℕ} {rows : List (Row V)} where
-  pub not_made_too_high : 65536 ≤ height → Made bot same e height rows (Err fault.TooHigh) rows
-  not_made_too_high high =
-      record { too_high = λ _. (refl, refl); too_short = λ low. absurd (omega arith); made = λ low. absurd (omega arith); length = refl }
-
-  module _ (low : height < 65536) where
-    pub not_made_too_short : length rows < e.size → Made bot same e height rows (Err fault.TooShort) rows
-    not_made_too_short few =
-        record { too_high = λ high. absurd (omega arith); too_short = λ _ _. (refl, refl); made = λ _ enough. absurd (omega arith); length = refl }
-
-    pub made_new : e.size ≤ length rows → {after : List (Row V)} → EachRow bot e.size (λ _ _. row Untouched bot) rows after → Made bot same e height rows (Ok (record { state = Idle })) after
-    made_new enough {after} clears =
-        record {
-          too_high = λ high. absurd (omega arith);
-          too_short = λ _ few. absurd (omega arith);
-          made = λ _ _. (record { state = Idle }, refl, record { idle = refl; untouched = clears.first }, drop_same bot e.size rows after clears.length clears.past);
-          length = clears.length;
-        }
+  pub made_new : height < 65536 → e.size ≤ length rows → {after : List (Row V)} → EachRow bot e.size (λ _ _. row Untouched bot) rows after → Made bot same e height rows (Ok (record { state = Idle })) after
+  made_new low enough {after} clears =
+      record {
+        too_high = λ high. absurd (omega arith);
+        too_short = λ _ few. absurd (omega arith);
+        made = λ _ _. (record { state = Idle }, refl, record { idle = refl; untouched = clears.first }, drop_same bot e.size rows after clears.length clears.past);
+        length = clears.length;
+      }

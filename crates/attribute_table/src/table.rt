@@ -16,7 +16,8 @@ use table_model::fault::TableFault;
 use table_model::record::{Evaluation, State};
 use table_model::row::{Mark, Row};
 
-// The record of a table. Its rows are lent at each call, and with them its system.
+// The record of a table. The caller owns the rows and the work list and lends them at each call, with the system:
+// so each call has them as parameters.
 #[derive(Drop)]
 pub struct Table {
     state: State,

@@ -69,10 +69,8 @@ fn numbered<T: Drop>(outcome: Result<T, TableFault>) -> Result<(), u8> {
 }
 
 fn has(rows: &[Row<Value>], instance: usize, mark: Mark, value: Value) -> bool {
-    match rows.get(instance) {
-        Some(row) => row.mark == mark && row.value.equal(value),
-        None => false,
-    }
+    rows.get(instance)
+        .is_some_and(|row| row.mark == mark && row.value.equal(value))
 }
 
 // A system with its table.

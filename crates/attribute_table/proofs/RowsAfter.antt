@@ -7,11 +7,11 @@ use Rattle.equations.specs.Rounds.{rounds}
 use Rattle.equations.proofs.Turns.{put_both, rounds_keep}
 use Rattle.reach_search.specs.Searched.{MarksReach}
 use Rattle.table_model.proofs.Lowest.{never}
-use Rattle.table_model.specs.Rows.{row, pending, values, KeepsPast, Opened, Rounded, MadeFinal, Released}
+use Rattle.table_model.specs.Rows.{row, is_pending, pending, values, KeepsPast, Opened, Rounded, MadeFinal, Released}
 use Rattle.table_model.specs.declared.row.Mark.{Mark}
 use Rattle.table_model.specs.declared.row.Mark.TheVariants.{Untouched, Pending, Final}
 use Rattle.table_model.specs.declared.row.Row.{Row}
-use Rattle.attribute_table.specs.Effects.{opened_as, opened_row, closed_as, closed_row, released_as, released_row, EachRow, Evaluated, Iterated}
+use Rattle.attribute_table.specs.Effects.{opened_as, opened_row, closed_as, closed_row, released_as, released_row, EachRow, Evaluated, Iterated, PendingAtBottom}
 use Rattle.attribute_table.specs.Lent.{rows_of}
 
 module _ {V : Type 0} where
@@ -45,6 +45,13 @@ module _ {V : Type 0} (bot : V) where
   opened_reached Pending r h = refl
   opened_reached Final r h = absurd (h refl)
 
+  opened_bottom : (m : Mark) (b : Bool) (r : Row V) → r.mark ≡ m → is_pending (opened_as bot m b r).mark ≡ true → (opened_as bot m b r).value ≡ bot
+  opened_bottom Untouched true r e h = refl
+  opened_bottom Untouched false r e h = absurd (never (let z : false ≡ true = sym (ap is_pending e) ∙ h in cc))
+  opened_bottom Pending true r e h = refl
+  opened_bottom Pending false r e h = refl
+  opened_bottom Final b r e h = absurd (never (let z : false ≡ true = sym (ap is_pending e) ∙ h in cc))
+
   module _ (e : Equations V) {rows after : List (Row V)} where
     module _ (i : ℕ) (marks : List ℕ) (reach : MarksReach e i marks) (each : EachRow bot e.size (λ j. opened_row bot (eqb (get_or marks j 0) 1)) rows after) where
       marked : (j : ℕ) → j < e.size → Reach e i j → eqb (get_or marks j 0) 1 ≡ true
@@ -68,6 +75,12 @@ module _ {V : Type 0} (bot : V) where
                 ∙ ap (λ x. opened_as bot x false (rows_of bot rows j)) m;
             past = each.past;
           }
+
+    pub pending_at_bottom : (same : V → V → Bool) (marks : List ℕ) → EachRow bot e.size (λ j. opened_row bot (eqb (get_or marks j 0) 1)) rows after → PendingAtBottom bot same e after
+    pending_at_bottom same marks each j l p =
+        let is = each.first j l in
+        ap (λ r. r.value) is
+        ∙ opened_bottom (rows_of bot rows j).mark (eqb (get_or marks j 0) 1) (rows_of bot rows j) refl (ap (λ r. is_pending r.mark) (sym is) ∙ p)
 
     pub closed_rows : EachRow bot e.size (λ _. closed_row bot) rows after → MadeFinal bot e (rows_of bot rows) (rows_of bot after)
     closed_rows each =

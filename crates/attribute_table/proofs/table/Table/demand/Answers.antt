@@ -43,7 +43,10 @@ returns-in_err-reach-clause-call g c =
     rw (p.1, p.2) (demand_of_dangling (omega arith, omega arith) (omega arith) r (read _) c.in-Idle.is other (c.reach.ensures.tells (omega arith) (omega arith)) _ c.in_err-reach.was)
 
 pub offset_bounds-rows-instance-2 : goal.offset_bounds-rows-instance-2
-offset_bounds-rows-instance-2 g c = let l : c.args.instance < length c.args.rows.now = omega arith in search (rules, l)
+offset_bounds-rows-instance-2 g c =
+    let enough = c.in_ok-check_length.ensures.ok in
+    let l : c.args.instance < length c.args.rows.now = omega arith in
+    search (rules, l)
 
 pub iterate-rounds-requires : goal.iterate-rounds-requires
 iterate-rounds-requires g c =

@@ -19,5 +19,5 @@ memo_names names s r = slice_index_or (vec_items s.answers) r (names s.below r)
 
 -- No answer is remembered yet, and there is room for memo_limit answers.
 pub record Reserved (m : Memo) : Type 0 where
-  pub empty : vec_items m.answers ≡ []
-  pub room : memo_limit ≤ vec_capacity m.answers
+  pub empty : vec_items m.answers.items ≡ []
+  pub room : memo_limit ≤ vec_capacity m.answers.items

@@ -15,11 +15,11 @@ answered f (Err e) = Err e
 
 -- the vectors are empty, and have room for every grammar within the limits
 pub record Reserved (m : GrammarMemory) : Type 0 where
-  pub no_terminals : vec_len m.terminals ≡ 0
-  pub no_nonterminals : vec_len m.nonterminals ≡ 0
-  pub no_productions : vec_len m.productions ≡ 0
-  pub no_references : vec_len m.references ≡ 0
-  pub terminal_room : 63 ≤ vec_capacity m.terminals
-  pub nonterminal_room : 64 ≤ vec_capacity m.nonterminals
-  pub production_room : 256 ≤ vec_capacity m.productions
-  pub reference_room : 1024 ≤ vec_capacity m.references
+  pub no_terminals : vec_len m.terminals.items ≡ 0
+  pub no_nonterminals : vec_len m.nonterminals.items ≡ 0
+  pub no_productions : vec_len m.productions.items ≡ 0
+  pub no_references : vec_len m.references.items ≡ 0
+  pub terminal_room : 63 ≤ vec_capacity m.terminals.items
+  pub nonterminal_room : 64 ≤ vec_capacity m.nonterminals.items
+  pub production_room : 256 ≤ vec_capacity m.productions.items
+  pub reference_room : 1024 ≤ vec_capacity m.references.items

@@ -1,14 +1,10 @@
 -- Vectors that are filled within their room. Assumes nothing.
-use Rattle.std.proofs.Common.{◌≡◌, ℕ, ◌+◌, ◌≤◌, [], ◌∷◌, ◌++◌, map, length, take, drop, vec_items, vec_len, vec_capacity, Vec, sym, refl, ap, ◌∙◌, arith}
+use Rattle.std.proofs.Common.{◌≡◌, ℕ, ◌+◌, ◌≤◌, [], ◌∷◌, ◌++◌, map, length, take, drop, vec_items, vec_len, vec_capacity, Vec, refl, ap, ◌∙◌, arith}
 use Rattle.std.specs.declared.alloc.Global.{Global}
-use Rattle.std.proofs.lemmas.List.{nil_from_length, take_all, drop_all, take-append-le, drop-append-le, map_push}
+use Rattle.std.proofs.lemmas.List.{take_all, drop_all, take-append-le, drop-append-le, map_push}
 use Rattle.entry_reader.specs.declared.name.Name.{Name}
 use Rattle.entry_reader.specs.Reads.{name_of}
 use Rattle.entries.specs.Fields.{names_from, Keeps}
-
--- a vector without length has no items
-pub no_items : {X : Type 0} (v : Vec X Global) → vec_len v ≡ 0 → vec_items v ≡ []
-no_items v e = nil_from_length (vec_items v) (sym v.ok.0 ∙ e)
 
 -- nothing was added
 pub keeps_none : (v : Vec Name Global) → Keeps 0 v v

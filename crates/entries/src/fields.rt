@@ -1,4 +1,4 @@
-// Fields that both kinds of entry have.
+// The fields of an entry file, read in order.
 ghost use Rattle.std.specs.Prelude.{◌≡◌, ◌+◌, ◌≤◌, false, [], map, IfOk, vec_len, vec_capacity, OnOk};
 ghost use Rattle.std.specs.Range.{range_inclusive_start, range_inclusive_end, range_inclusive_exhausted};
 ghost use Rattle.entry_format.specs.Grammars.{loader_checks, read_declaration, read_declarations, read_kind, read_limited};

@@ -1,7 +1,8 @@
 // Vectors whose memory is reserved ahead of their use.
 #![tactic(auto)]
 
-ghost use Rattle.std.specs.Prelude.{◌≡◌, ◌≤◌, [], IfOk, vec_capacity};
+ghost use Rattle.std.specs.Prelude.{◌≡◌, IfOk};
+ghost use Rattle.reserved_vec.specs.Reserved.{IsReserved};
 
 use std::alloc::{AllocError, Global};
 
@@ -12,24 +13,22 @@ mod tests;
 #[derive(Drop)]
 pub struct ReservedVec<T, const N: usize> {
     items: Vec<T>,
-    ghost empty: { items.items ≡ [] },
-    ghost room: { N ≤ vec_capacity items },
+    ghost reserved: { IsReserved N items },
 }
 
 impl<T, const N: usize> ReservedVec<T, N> {
     // Its only refusal is want of memory.
     pub fn new(heap: Global) -> Result<Self, AllocError>
-        ensures empty { IfOk result (λ r. r.items.items ≡ []) }
-        ensures room { IfOk result (λ r. N ≤ vec_capacity r.items) }
+        ensures { IfOk result (λ r. IsReserved N r.items) }
     {
         let items = Vec::with_capacity(heap, N)?;
         Ok(ReservedVec { items })
     }
 
+    // The vector, to be filled.
     pub fn into_vec(self) -> Vec<T>
-        ensures items { result ≡ self.items }
-        ensures empty { result.items ≡ [] }
-        ensures room { N ≤ vec_capacity result }
+        ensures same { result ≡ self.items }
+        ensures reserved { IsReserved N result }
     {
         self.items
     }

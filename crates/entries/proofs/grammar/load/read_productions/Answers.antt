@@ -1,10 +1,10 @@
-use Rattle.std.proofs.Common.{◌≡◌, ◌+◌, ◌-◌, map, length, vec_items, sym, ap, ◌∙◌, arith, rules}
+use Rattle.std.proofs.Common.{◌+◌, ◌-◌, map, sym, ap, ◌∙◌, arith, rules}
 use Rattle.std.proofs.lemmas.Result.{err_from_is_err_and}
 use Rattle.entry_format.proofs.Loops.{series_more, series_bad}
 use Rattle.entry_format.specs.Grammars.{loader_checks, read_production, read_production_after}
 use Rattle.entry_format.specs.Reading.{series}
 use Rattle.entry_reader.specs.Reads.{input_of, name_of}
-use Rattle.entries.specs.Loaded.{production_of, productions_of}
+use Rattle.entries.specs.Loaded.{productions_of}
 use Rattle.entries.proofs.Tiling.{references_count, tiles_more, productions_more}
 use Rattle.entries.proofs.grammar.load.read_productions.Goals as goal
 
@@ -16,20 +16,6 @@ returns-in_err-production c =
     let e = series_bad (read_production loader_checks nts) c.in_ok-count.count c.loop.counter c.loop-test.true done (input_of c.loop.reader) _ (c.in_err-production.ensures.read ∙ ap (λ n. read_production_after loader_checks nts n (input_of c.loop.reader)) (sym used)) in
     let p = err_from_is_err_and c.from_residual-in_err-production.result c.from_residual-in_err-production.ensures.1 in
     rw (p.1, p.2) (record { read = search (rules, e); tiles = tt })
-
-pub loop-init : goal.loop-init
-loop-init c =
-    let nts = map name_of c.args.nonterminals.now in
-    let e : c.in_ok-count.count ≡ c.in_ok-count.count - 0 = omega arith in
-    let none = c.into_vec-productions.ensures.empty in
-    let unused = ap length c.into_vec-references.ensures.empty in (
-      λ k. series (read_production loader_checks nts) (e k) (map (production_of (vec_items c.into_vec-references.result)) (sym none k)) (input_of c.read_limited.new.reader),
-      rw none (omega (arith, unused)),
-      omega (arith, ap length none),
-      omega (arith, unused),
-      omega (arith, c.in_ok-count.ensures.within),
-      omega arith,
-    )
 
 pub loop-preserved : goal.loop-preserved
 loop-preserved c =
@@ -47,11 +33,3 @@ loop-preserved c =
       omega arith,
       omega (arith, told.adds.keeps.room),
     )
-
-pub returns : goal.returns
-returns c =
-    let nts = map name_of c.args.nonterminals.now in
-    let done = productions_of c.loop.productions c.loop.references in
-    let z : c.in_ok-count.count - c.loop.counter ≡ 0 = omega arith in
-    let e = c.loop.invariant.0 ∙ ap (λ n. series (read_production loader_checks nts) n done (input_of c.loop.reader)) z in
-    record { read = search (rules, e); tiles = c.loop.invariant.1 }

@@ -2,4 +2,4 @@ pub mod Vectors
 pub mod Tiling
 pub mod Whole
 pub mod Invariant
-pub mod Nth
+pub mod Found

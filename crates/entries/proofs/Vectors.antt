@@ -1,21 +1,10 @@
 -- Vectors that are filled within their room. Assumes nothing.
-use Rattle.std.proofs.Common.{◌≡◌, ℕ, ◌+◌, ◌≤◌, [], ◌∷◌, ◌++◌, map, length, take, drop, vec_items, vec_len, vec_capacity, Vec, sym, refl, ap, ◌∙◌, arith}
+use Rattle.std.proofs.Common.{◌≡◌, ℕ, ◌+◌, ◌≤◌, [], ◌∷◌, ◌++◌, map, length, take, drop, vec_items, vec_len, vec_capacity, Vec, ap, ◌∙◌, arith}
 use Rattle.std.specs.declared.alloc.Global.{Global}
-use Rattle.std.proofs.lemmas.List.{nil_from_length, take_all, drop_all, take-append-le, drop-append-le, map_push}
+use Rattle.std.proofs.lemmas.List.{take-append-le, drop-append-le, map_push}
 use Rattle.entry_reader.specs.declared.name.Name.{Name}
 use Rattle.entry_reader.specs.Reads.{name_of}
 use Rattle.entries.specs.Fields.{names_from, Keeps}
-
--- a vector without length has no items
-pub no_items : {X : Type 0} (v : Vec X Global) → vec_len v ≡ 0 → vec_items v ≡ []
-no_items v e = nil_from_length (vec_items v) (sym v.ok.0 ∙ e)
-
--- nothing was added
-pub keeps_none : (v : Vec Name Global) → Keeps 0 v v
-keeps_none v = record { first = take_all (vec_len v) (vec_items v) (omega (arith, v.ok.0)); len = omega arith; room = refl }
-
-pub names_none : (v : Vec Name Global) → names_from (vec_len v) v ≡ []
-names_none v = ap (map name_of) (drop_all (vec_len v) (vec_items v) (omega (arith, v.ok.0)))
 
 -- one name was added behind n
 module _ (n : ℕ) (before now after : Vec Name Global) (x : Name) (kept : Keeps n before now) (items : vec_items after ≡ vec_items now ++ x ∷ []) where

@@ -1,5 +1,6 @@
 -- What a loaded grammar stands for. Assumes nothing.
-use Rattle.std.specs.Prelude.{◌≡◌, ◌≤◌, Ok, Err, vec_len, vec_capacity, Result}
+use Rattle.std.specs.Prelude.{Ok, Err, Result}
+use Rattle.reserved_vec.specs.Reserved.{IsReserved}
 use Rattle.entry_format.specs.Grammars.{GrammarModel}
 use Rattle.entries.specs.declared.grammar.Grammar.{Grammar}
 use Rattle.entries.specs.declared.grammar.GrammarMemory.{GrammarMemory}
@@ -15,11 +16,7 @@ answered f (Err e) = Err e
 
 -- the vectors are empty, and have room for every grammar within the limits
 pub record Reserved (m : GrammarMemory) : Type 0 where
-  pub no_terminals : vec_len m.terminals ≡ 0
-  pub no_nonterminals : vec_len m.nonterminals ≡ 0
-  pub no_productions : vec_len m.productions ≡ 0
-  pub no_references : vec_len m.references ≡ 0
-  pub terminal_room : 63 ≤ vec_capacity m.terminals
-  pub nonterminal_room : 64 ≤ vec_capacity m.nonterminals
-  pub production_room : 256 ≤ vec_capacity m.productions
-  pub reference_room : 1024 ≤ vec_capacity m.references
+  pub terminals : IsReserved 63 m.terminals.items
+  pub nonterminals : IsReserved 64 m.nonterminals.items
+  pub productions : IsReserved 256 m.productions.items
+  pub references : IsReserved 1024 m.references.items

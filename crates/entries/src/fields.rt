@@ -1,5 +1,6 @@
-// Fields that both kinds of entry have.
-ghost use Rattle.std.specs.Prelude.{◌≡◌, ◌+◌, ◌<◌, ◌≤◌, [], map, IfOk, vec_len, vec_capacity, OnOk};
+// The fields of an entry file, read in order.
+ghost use Rattle.std.specs.Prelude.{◌≡◌, ◌+◌, ◌≤◌, false, [], map, IfOk, vec_len, vec_capacity, OnOk};
+ghost use Rattle.std.specs.Range.{range_inclusive_start, range_inclusive_end, range_inclusive_exhausted};
 ghost use Rattle.entry_format.specs.Grammars.{loader_checks, read_declaration, read_declarations, read_kind, read_limited};
 ghost use Rattle.entry_format.specs.Reading.{read_name, series};
 ghost use Rattle.entry_reader.specs.Reads.{input_of, name_of, reads};
@@ -9,6 +10,8 @@ use crate::lookup::check_new;
 use entry_format::fault::{LoadFault, ReadFault};
 use entry_reader::name::Name;
 use entry_reader::reader::Reader;
+use reserved_vec::ReservedVec;
+use std::ops::RangeInclusive;
 
 // The first byte, which tells the kind of the entry.
 pub(crate) fn read_kind(reader: &mut Reader, kind: u8) -> Result<(), LoadFault>
@@ -21,14 +24,18 @@ pub(crate) fn read_kind(reader: &mut Reader, kind: u8) -> Result<(), LoadFault>
     Ok(())
 }
 
-// A count from `low` to `high`.
-pub(crate) fn read_limited(reader: &mut Reader, low: u16, high: u16) -> Result<u16, LoadFault>
-    ensures read { reads (λ v. v) result reader.new ≡ read_limited low high (input_of reader.old) }
-    ensures within { IfOk result (λ n. n ≤ high) }
+// A count within `limits`.
+pub(crate) fn read_limited(
+    reader: &mut Reader,
+    limits: RangeInclusive<usize>,
+) -> Result<usize, LoadFault>
+    requires { range_inclusive_exhausted limits ≡ false }
+    ensures read { reads (λ v. v) result reader.new ≡ read_limited (range_inclusive_start limits) (range_inclusive_end limits) (input_of reader.old) }
+    ensures within { IfOk result (λ n. n ≤ range_inclusive_end limits) }
 {
     let place = reader.place();
-    let count = reader.count()?;
-    if count < low || count > high {
+    let count = usize::from(reader.count()?);
+    if !limits.contains(&count) {
         return Err(LoadFault::OverLimit { place });
     }
     Ok(count)
@@ -47,36 +54,35 @@ fn read_declaration<'a>(
     Ok(name)
 }
 
-// A count and that many names, each declared behind `earlier` and those before it.
-pub(crate) fn read_declarations<'a>(
+// A count from `low` to `N` and that many names, each declared behind `earlier` and those before it.
+pub(crate) fn read_declarations<'a, const N: usize>(
     reader: &mut Reader<'a>,
-    low: u16,
-    high: u16,
+    low: usize,
     earlier: &[Name<'a>],
-    names: &mut Vec<Name<'a>>,
-) -> Result<(), LoadFault>
-    requires { (vec_len names.old ≡ 0) × (high ≤ vec_capacity names.old) }
-    ensures { reads (λ _. names_of names.new) result reader.new ≡ read_declarations loader_checks low high (map name_of earlier.now) (input_of reader.old) }
+    memory: ReservedVec<Name<'a>, N>,
+) -> Result<Vec<Name<'a>>, LoadFault>
+    ensures { reads names_of result reader.new ≡ read_declarations loader_checks low N (map name_of earlier.now) (input_of reader.old) }
 {
-    let count = read_limited(reader, low, high)?;
-    for i in 0..count {
+    let mut names = memory.into_vec();
+    let count = read_limited(reader, low..=N)?;
+    for _ in 0..count {
         let name = read_declaration(reader, earlier, names.as_slice())?;
         names.push_reserved(name);
     }
-    Ok(())
+    Ok(names)
 }
 
 // Adds `count` names to those of `names`.
 pub(crate) fn read_names<'a>(
     reader: &mut Reader<'a>,
-    count: u16,
+    count: usize,
     names: &mut Vec<Name<'a>>,
 ) -> Result<(), ReadFault>
     requires { vec_len names.old + count ≤ vec_capacity names.old }
     ensures read { reads (λ _. names_from (vec_len names.old) names.new) result reader.new ≡ series (λ _. read_name) count [] (input_of reader.old) }
     ensures keeps { OnOk result (Keeps count names.old names.new) }
 {
-    for i in 0..count {
+    for _ in 0..count {
         let name = reader.name()?;
         names.push_reserved(name);
     }

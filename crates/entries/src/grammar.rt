@@ -1,12 +1,21 @@
 // Grammars, and the memory that is reserved for one.
-ghost use Rattle.std.specs.Prelude.{◌≡◌, ◌≤◌, vec_len, vec_capacity};
 ghost use Rattle.entries.specs.Loaded.{Loaded};
 
 use crate::production::Production;
 use entry_reader::name::Name;
+use reserved_vec::ReservedVec;
 
 pub mod contents;
 pub mod load;
+
+// The limits of a grammar.
+const TERMINALS: usize = 63;
+
+const NONTERMINALS: usize = 64;
+
+const PRODUCTIONS: usize = 256;
+
+const REFERENCES: usize = 1024;
 
 // A grammar that was loaded from an entry file, of which its names are parts.
 #[derive(Drop)]
@@ -19,19 +28,11 @@ pub struct Grammar<'a> {
     ghost loaded: { ∥ Loaded terminals nonterminals productions references ∥₁ },
 }
 
-// Empty vectors with room for every grammar that is within the limits.
+// Room for every grammar that is within the limits.
 #[derive(Drop)]
 pub struct GrammarMemory<'a> {
-    terminals: Vec<Name<'a>>,
-    nonterminals: Vec<Name<'a>>,
-    productions: Vec<Production<'a>>,
-    references: Vec<Name<'a>>,
-    ghost no_terminals: { vec_len terminals ≡ 0 },
-    ghost no_nonterminals: { vec_len nonterminals ≡ 0 },
-    ghost no_productions: { vec_len productions ≡ 0 },
-    ghost no_references: { vec_len references ≡ 0 },
-    ghost terminal_room: { 63 ≤ vec_capacity terminals },
-    ghost nonterminal_room: { 64 ≤ vec_capacity nonterminals },
-    ghost production_room: { 256 ≤ vec_capacity productions },
-    ghost reference_room: { 1024 ≤ vec_capacity references },
+    terminals: ReservedVec<Name<'a>, TERMINALS>,
+    nonterminals: ReservedVec<Name<'a>, NONTERMINALS>,
+    productions: ReservedVec<Production<'a>, PRODUCTIONS>,
+    references: ReservedVec<Name<'a>, REFERENCES>,
 }

@@ -11,19 +11,14 @@ use entry_reader::name::Name;
 pub(crate) fn position_of(names: &[Name], name: &Name) -> Option<usize>
     ensures { result ≡ position (map name_of names.now) (name_of name.now) }
 {
-    for (i, other) in names.iter().enumerate() {
-        if other.equals(name) {
-            return Some(i);
-        }
-    }
-    None
+    names.iter().position(|other| other.equals(name))
 }
 
 // Refuses a name that is already declared, among `earlier` or `later`.
 pub(crate) fn check_new(earlier: &[Name], later: &[Name], name: &Name) -> Result<(), NameFault>
     ensures { result ≡ loader_checks.declares (map name_of earlier.now ++ map name_of later.now) (name_of name.now) }
 {
-    if position_of(earlier, name).is_some() || position_of(later, name).is_some() {
+    if earlier.iter().chain(later).any(|other| other.equals(name)) {
         return Err(NameFault::Duplicate {
             place: name.place(),
         });
@@ -35,10 +30,7 @@ pub(crate) fn check_new(earlier: &[Name], later: &[Name], name: &Name) -> Result
 pub(crate) fn left_side(nonterminals: &[Name], name: &Name) -> Result<usize, NameFault>
     ensures { result ≡ loader_checks.left_side (map name_of nonterminals.now) (name_of name.now) }
 {
-    match position_of(nonterminals, name) {
-        Some(i) => Ok(i),
-        None => Err(NameFault::NotNonterminal {
-            place: name.place(),
-        }),
-    }
+    position_of(nonterminals, name).ok_or(NameFault::NotNonterminal {
+        place: name.place(),
+    })
 }

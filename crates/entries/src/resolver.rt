@@ -40,13 +40,8 @@ impl Resolver for GrammarResolver<'_, '_> {
     }
 
     fn resolve(&self, reference: usize) -> Result<usize, Dangling> {
-        let names = self.grammar.references();
-        if reference >= names.len() {
-            return Err(Dangling { reference });
-        }
-        match self.grammar.symbol_of(&names[reference]) {
-            Some(symbol) => Ok(symbol),
-            None => Err(Dangling { reference }),
-        }
+        let dangling = Dangling { reference };
+        let name = self.grammar.references().get(reference).ok_or(dangling)?;
+        self.grammar.symbol_of(name).ok_or(dangling)
     }
 }

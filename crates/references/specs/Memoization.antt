@@ -1,6 +1,7 @@
 -- What a resolver means whose answers are remembered, from what the resolver below it means.
 -- With the maxima the rules of a resolver hold whatever the fields hold. In what `Memoized::new` makes, the counts and the names are those of the resolver below.
-use Rattle.std.specs.Prelude.{◌≡◌, ℕ, ◌≤◌, max, [], vec_items, vec_len, vec_capacity, Option, slice_index_or}
+use Rattle.std.specs.Prelude.{ℕ, max, vec_items, vec_len, Option, slice_index_or}
+use Rattle.reserved_vec.specs.Reserved.{IsReserved}
 use Rattle.references.specs.declared.memoization.Memo.{Memo}
 use Rattle.references.specs.declared.memoization.Memoized.{Memoized}
 use Rattle.references.specs.Remembered.{memo_limit}
@@ -18,6 +19,5 @@ abbrev pub memo_names : {R : Type 0} → (R → ℕ → Option ℕ) → Memoized
 memo_names names s r = slice_index_or (vec_items s.answers) r (names s.below r)
 
 -- No answer is remembered yet, and there is room for memo_limit answers.
-pub record Reserved (m : Memo) : Type 0 where
-  pub empty : vec_items m.answers ≡ []
-  pub room : memo_limit ≤ vec_capacity m.answers
+abbrev pub Reserved : Memo → Type 0
+Reserved m = IsReserved memo_limit m.answers.items

@@ -1,15 +1,17 @@
 // Answers that are remembered, and the room for them.
-ghost use Rattle.std.specs.Prelude.{◌≡◌, ◌≤◌, [], vec_capacity};
-ghost use Rattle.references.specs.Remembered.{memo_limit, Within};
+ghost use Rattle.references.specs.Remembered.{Within};
+
+use reserved_vec::ReservedVec;
 
 pub mod methods;
+
+// How many references are remembered at most.
+const MEMO_LIMIT: usize = 1024;
 
 // Room for the remembered answers, reserved before they are asked for.
 #[derive(Drop)]
 pub struct Memo {
-    answers: Vec<Option<usize>>,
-    ghost empty: { answers.items ≡ [] },
-    ghost room: { memo_limit ≤ vec_capacity answers },
+    answers: ReservedVec<Option<usize>, MEMO_LIMIT>,
 }
 
 // Remembers the answers of the resolver below for its first 1,024 references.

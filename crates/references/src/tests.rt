@@ -2,6 +2,7 @@
 ghost use Rattle.references.specs.Halves.{halves, halves_laws};
 
 use crate::{Dangling, Memo, Memoized, Resolver};
+use std::alloc::{AllocError, Global};
 use std::cell::Cell;
 use std::test::Fail;
 
@@ -39,14 +40,20 @@ impl Resolver for Halves<'_> {
     }
 }
 
+// The layer that remembers answers, above a resolver of `size` references that counts in `asked`.
+fn memoized_halves(
+    heap: Global,
+    size: usize,
+    asked: &Cell<usize>,
+) -> Result<Memoized<Halves<'_>>, AllocError> {
+    let memo = Memo::reserve(heap)?;
+    Ok(Memoized::new(Halves { size, asked }, memo))
+}
+
 #[test]
 fn asks_once_for_the_first_references(rt: HostRuntime) -> Result<(), Fail> {
     let asked = Cell::new(0);
-    let below = Halves {
-        size: 1030,
-        asked: &asked,
-    };
-    let memoized = Memoized::new(below, Memo::reserve(rt.alloc())?);
+    let memoized = memoized_halves(rt.alloc(), 1030, &asked)?;
     assert_eq!(rt; asked.get(), 1024);
     assert_eq!(rt; memoized.resolve(1022), Ok(511));
     assert_eq!(rt; memoized.resolve(1023), Err(Dangling { reference: 1023 }));
@@ -59,11 +66,7 @@ fn asks_once_for_the_first_references(rt: HostRuntime) -> Result<(), Fail> {
 #[test]
 fn asks_for_no_more_than_there_are(rt: HostRuntime) -> Result<(), Fail> {
     let asked = Cell::new(0);
-    let below = Halves {
-        size: 3,
-        asked: &asked,
-    };
-    let memoized = Memoized::new(below, Memo::reserve(rt.alloc())?);
+    let memoized = memoized_halves(rt.alloc(), 3, &asked)?;
     assert_eq!(rt; memoized.resolve(2), Ok(1));
     assert_eq!(rt; asked.get(), 3);
     assert_eq!(rt; memoized.resolve(3), Err(Dangling { reference: 3 }));

@@ -9,7 +9,6 @@ ghost use Rattle.entries.specs.Loaded.{production_of, Tiles};
 ghost use Rattle.entries.specs.Models.{grammar_of};
 
 use crate::grammar::Grammar;
-use crate::lookup::position_of;
 use crate::production::Production;
 use entry_reader::name::Name;
 
@@ -45,37 +44,28 @@ impl<'a> Grammar<'a> {
     pub fn right_side(&self, production: usize) -> Option<&[Name<'a>]>
         ensures { option_map (λ names. map name_of names.now) result ≡ option_map (λ p. p.right) (slice_get (grammar_of self.now).productions production) }
     {
-        if production >= self.productions.len() {
-            return None;
-        }
-        let p = self.productions[production];
-        Some(&self.references.as_slice()[p.first..p.first + p.len])
+        let production = self.productions.get(production)?;
+        Some(&self.references[production.first..production.first + production.len])
     }
 
     // The name of a symbol; terminals come first.
     pub fn symbol_name(&self, symbol: usize) -> Option<Name<'a>>
         ensures { option_map name_of result ≡ slice_get (symbols (grammar_of self.now)) symbol }
     {
-        let count = self.terminals.len();
-        if symbol < count {
-            return Some(self.terminals[symbol]);
-        }
-        if symbol - count < self.nonterminals.len() {
-            return Some(self.nonterminals[symbol - count]);
-        }
-        None
+        self.terminals
+            .iter()
+            .chain(&self.nonterminals)
+            .nth(symbol)
+            .copied()
     }
 
     // The number of the symbol of equal name; terminals come first.
     pub fn symbol_of(&self, name: &Name) -> Option<usize>
         ensures { result ≡ position (symbols (grammar_of self.now)) (name_of name.now) }
     {
-        if let Some(i) = position_of(&self.terminals, name) {
-            return Some(i);
-        }
-        match position_of(&self.nonterminals, name) {
-            Some(i) => Some(self.terminals.len() + i),
-            None => None,
-        }
+        self.terminals
+            .iter()
+            .chain(&self.nonterminals)
+            .position(|other| other.equals(name))
     }
 }

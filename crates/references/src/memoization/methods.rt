@@ -4,19 +4,17 @@ ghost use Rattle.references.specs.Remembered.{first_answers};
 ghost use Rattle.references.specs.Memoization.{memo_references, memo_declarations, memo_names, Reserved};
 ghost use Rattle.references.specs.MemoLaws.{memo_laws};
 
-use super::{Memo, Memoized};
+use super::{MEMO_LIMIT, Memo, Memoized};
 use crate::{Dangling, Resolver};
+use reserved_vec::ReservedVec;
 use std::alloc::{AllocError, Global};
-
-// How many references are remembered at most.
-const MEMO_LIMIT: usize = 1024;
 
 impl Memo {
     // Its only refusal is want of memory.
     pub fn reserve(heap: Global) -> Result<Memo, AllocError>
         ensures { IfOk result Reserved }
     {
-        let answers = Vec::with_capacity(heap, MEMO_LIMIT)?;
+        let answers = ReservedVec::new(heap)?;
         Ok(Memo { answers })
     }
 }
@@ -29,7 +27,7 @@ impl<R: Resolver> Memoized<R> {
         ensures names { (n : ℕ) → memo_names R.Resolver.names result n ≡ R.Resolver.names below n }
         ensures answers { result.answers.items ≡ first_answers (R.Resolver.references below) (R.Resolver.names below) }
     {
-        let Memo { mut answers } = memo;
+        let mut answers = memo.answers.into_vec();
         let count = below.reference_count().min(MEMO_LIMIT);
         for reference in 0..count {
             answers.push_reserved(below.resolve(reference).ok());

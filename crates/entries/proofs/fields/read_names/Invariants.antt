@@ -4,7 +4,7 @@ use Rattle.entry_reader.specs.Reads.{input_of}
 use Rattle.entries.specs.Fields.{names_from, Keeps}
 use Rattle.entries.proofs.fields.read_names.Given as goal
 
-abbrev pub invariant-loop-i : goal.invariant-loop-i
-invariant-loop-i l =
-    (series (λ _. read_name) l.count [] (input_of l.initial.reader) ≡ series (λ _. read_name) (l.count - l.i) (names_from (vec_len l.initial.names) l.names) (input_of l.reader))
-    × Keeps l.i l.initial.names l.names
+abbrev pub invariant-loop : goal.invariant-loop
+invariant-loop l =
+    (series (λ _. read_name) l.count [] (input_of l.initial.reader) ≡ series (λ _. read_name) (l.count - l.counter) (names_from (vec_len l.initial.names) l.names) (input_of l.reader))
+    × Keeps l.counter l.initial.names l.names

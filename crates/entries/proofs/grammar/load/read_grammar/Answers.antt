@@ -9,9 +9,9 @@ pub invariant_of-result : goal.invariant_of-result
 invariant_of-result c =
     let r = grammar_read (input_of c.new-reader.result) _ _ _ _ _ _ _
     c.in_ok-read_kind.ensures
-    c.in_ok-read_declarations.ensures
-    (c.in_ok-read_declarations-2.ensures ∙ ap (λ xs. read_declarations loader_checks 1 64 (map name_of xs) (input_of c.read_declarations.new.reader)) c.as_slice.ensures.value)
-    (c.in_ok-read_productions.ensures.read ∙ ap (λ xs. read_productions loader_checks (map name_of xs) (input_of c.read_declarations-2.new.reader)) c.as_slice-2.ensures.value) in
+    c.in_ok-terminals.ensures
+    (c.in_ok-nonterminals.ensures ∙ ap (λ xs. read_declarations loader_checks 1 64 (map name_of xs) (input_of c.read_declarations.new.reader)) c.deref.ensures.value)
+    (c.in_ok-productions.ensures.read ∙ ap (λ xs. read_productions loader_checks (map name_of xs) (input_of c.read_declarations-2.new.reader)) c.deref-2.ensures.value) in
     let m = ap (read_grammar loader_checks) (sym c.new-reader.ensures) ∙ r in
     let law = grammar_lawful c.args.file.now _ _ m in
-    record { loaded = ∣ record { lawful = law; tiles = c.in_ok-read_productions.ensures.tiles } ∣₁ }
+    record { loaded = ∣ record { lawful = law; tiles = c.in_ok-productions.ensures.tiles } ∣₁ }

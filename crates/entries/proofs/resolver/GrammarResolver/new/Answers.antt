@@ -1,4 +1,4 @@
-use Rattle.std.proofs.Common.{sym, refl, ap, ◌∙◌}
+use Rattle.std.proofs.Common.{sym, ap, ◌∙◌}
 use Rattle.entry_format.proofs.Positions.{position_unique}
 use Rattle.entry_format.specs.Grammars.{GrammarModel, symbols}
 use Rattle.entry_format.specs.Names.{Distinct}
@@ -23,5 +23,5 @@ resolves g d = record {
       cc;
 }
 
-pub returns : goal.returns
-returns c = record { model = refl; resolves = resolves (grammar_of c.args.grammar.now) (distinct c.args.grammar.now) }
+pub returns-clause-resolves : goal.returns-clause-resolves
+returns-clause-resolves c = resolves (grammar_of c.args.grammar.now) (distinct c.args.grammar.now)

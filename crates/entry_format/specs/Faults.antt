@@ -1,4 +1,4 @@
--- The number, the layer and the place of each fault. Assumes nothing.
+-- The number, the layer, the place and the reason of each fault. Assumes nothing.
 use Rattle.std.specs.Prelude.{ℕ, List, codes}
 use Rattle.entry_format.specs.declared.fault.Layer.{Layer}
 use Rattle.entry_format.specs.declared.fault.Layer.TheVariants as layer
@@ -40,3 +40,13 @@ place_of (Names (NotNonterminal p)) = p
 place_of (WrongKind p) = p
 place_of (OverLimit p) = p
 place_of (TrailingBytes p) = p
+
+-- what is wrong with the file
+abbrev pub reason_of : LoadFault → List ℕ
+reason_of (Read (EndOfFile p)) = codes "the file ends inside a field"
+reason_of (WrongKind p) = codes "the first byte is not the kind asked for"
+reason_of (OverLimit p) = codes "a count or a sum of counts is outside its limits"
+reason_of (Read (BadName p)) = codes "a name has a bad length or byte"
+reason_of (Names (Duplicate p)) = codes "an equal name is already declared"
+reason_of (Names (NotNonterminal p)) = codes "the left name is no nonterminal"
+reason_of (TrailingBytes p) = codes "there are bytes after the end"

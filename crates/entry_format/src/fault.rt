@@ -1,7 +1,10 @@
 // What can be wrong with an entry file.
-ghost use Rattle.std.specs.Prelude.{◌≡◌, codes};
-ghost use Rattle.entry_format.specs.Faults.{layer_name, number_of, layer_of, place_of};
+ghost use Rattle.std.specs.Prelude.{◌≡◌, Some};
+ghost use Rattle.entry_format.specs.Faults.{layer_name, number_of, layer_of, place_of, reason_of};
 ghost use Rattle.entry_format.specs.declared.fault.LoadFault.TheVariants.{Read, Names};
+
+use std::error::Error;
+use std::fmt;
 
 // A fault inside one field.
 #[derive(Clone, Copy, Debug, PartialEq, Eq)]
@@ -54,6 +57,14 @@ impl Layer {
     }
 }
 
+impl fmt::Display for Layer {
+    ghost output = { λ layer. Some (layer_name layer) };
+
+    fn fmt<W: fmt::Write>(&self, f: &mut fmt::Formatter<W>) -> fmt::Result {
+        f.write_str(self.name())
+    }
+}
+
 impl LoadFault {
     // The number of the refusal.
     pub fn number(self) -> u8
@@ -98,6 +109,51 @@ impl LoadFault {
     }
 }
 
+impl fmt::Display for ReadFault {
+    ghost output = { λ fault. Some (reason_of (Read fault)) };
+
+    fn fmt<W: fmt::Write>(&self, f: &mut fmt::Formatter<W>) -> fmt::Result {
+        f.write_str(match self {
+            ReadFault::EndOfFile { .. } => "the file ends inside a field",
+            ReadFault::BadName { .. } => "a name has a bad length or byte",
+        })
+    }
+}
+
+impl Error for ReadFault {}
+
+impl fmt::Display for NameFault {
+    ghost output = { λ fault. Some (reason_of (Names fault)) };
+
+    fn fmt<W: fmt::Write>(&self, f: &mut fmt::Formatter<W>) -> fmt::Result {
+        f.write_str(match self {
+            NameFault::Duplicate { .. } => "an equal name is already declared",
+            NameFault::NotNonterminal { .. } => "the left name is no nonterminal",
+        })
+    }
+}
+
+impl Error for NameFault {}
+
+impl fmt::Display for LoadFault {
+    ghost output = { λ fault. Some (reason_of fault) };
+
+    fn fmt<W: fmt::Write>(&self, f: &mut fmt::Formatter<W>) -> fmt::Result {
+        match self {
+            LoadFault::Read(fault) => fault.fmt(f),
+            LoadFault::Names(fault) => fault.fmt(f),
+            LoadFault::WrongKind { .. } => f.write_str("the first byte is not the kind asked for"),
+            LoadFault::OverLimit { .. } => {
+                f.write_str("a count or a sum of counts is outside its limits")
+            }
+            LoadFault::TrailingBytes { .. } => f.write_str("there are bytes after the end"),
+        }
+    }
+}
+
+impl Error for LoadFault {}
+
+// By hand, since the loaders' clauses name the fault that `?` makes, which `from_gives` says.
 impl From<ReadFault> for LoadFault {
     ghost from_gives = { λ e r. r ≡ Read e };
 

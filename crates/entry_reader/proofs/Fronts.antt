@@ -1,6 +1,7 @@
 -- The front of a file that has been read, and the bytes of a name. Assumes nothing.
-use Rattle.std.proofs.Common.{◌≡◌, ℕ, zero, suc, ◌+◌, ◌<◌, Bool, true, false, cond, List, [], ◌∷◌, ◌++◌, length, take, drop, IsUtf8, sym, refl, ap, subst, add-one, arith}
+use Rattle.std.proofs.Common.{◌≡◌, ℕ, zero, suc, ◌+◌, ◌<◌, Bool, true, false, cond, ◌&&◌, nat_le, List, [], ◌∷◌, ◌++◌, length, take, drop, IsUtf8, sym, refl, ap, ◌∙◌, subst, add-one, arith}
 use Rattle.std.proofs.lemmas.Bool.Decides.{nat_tests}
+use Rattle.std.specs.Char.{is_ascii_graphic}
 use Rattle.std.specs.List.{AllByRecursion}
 use Rattle.std.proofs.ByRecursion.{IsAscii-from_all, All-push, All-weaker}
 use Rattle.std.proofs.lemmas.Str.{IsUtf8-from_ascii}
@@ -24,16 +25,24 @@ front_suc [] ys (suc i) b r = absurd (let z : ◌≡◌ {A = ℕ} 0 1 = cc in om
 front_suc (x ∷ xs) ys zero b r = let e : x ≡ b = cc in let f : xs ≡ ys = cc in (cc, f, omega arith)
 front_suc (x ∷ xs) ys (suc i) b r = let h = front_suc xs ys i b r in (ap (λ l. x ∷ l) h.0, h.1, omega (arith, h.2))
 
+-- the library's test of a byte is the format's
+and_cond : (x y : Bool) → x && y ≡ cond x y false
+and_cond true y = refl
+and_cond false y = refl
+
+graphic : (b : ℕ) → is_ascii_graphic b ≡ printable b
+graphic b = and_cond (nat_le 33 b) (nat_le b 126)
+
 -- a byte of a name: none is left, it is allowed, or it is not
 module _ (l : Input) where
   pub name_byte_end : (e : ReadFault) → bad e ≡ read_byte l → bad e ≡ read_name_byte l
   name_byte_end e r = simp (sym r)
 
-  pub name_byte_good : (b : ℕ) (after : Input) → got b after ≡ read_byte l → true ≡ printable b → got b after ≡ read_name_byte l
-  name_byte_good b after r ok = simp (sym r, sym ok)
+  pub name_byte_good : (b : ℕ) (after : Input) → got b after ≡ read_byte l → true ≡ is_ascii_graphic b → got b after ≡ read_name_byte l
+  name_byte_good b after r ok = let e : printable b ≡ true = sym (ok ∙ graphic b) in simp (sym r, e)
 
-  pub name_byte_wrong : (b : ℕ) (after : Input) → got b after ≡ read_byte l → false ≡ printable b → bad (BadName l.place) ≡ read_name_byte l
-  name_byte_wrong b after r ok = simp (sym r, sym ok)
+  pub name_byte_wrong : (b : ℕ) (after : Input) → got b after ≡ read_byte l → false ≡ is_ascii_graphic b → bad (BadName l.place) ≡ read_name_byte l
+  name_byte_wrong b after r ok = let e : printable b ≡ false = sym (ok ∙ graphic b) in simp (sym r, e)
 
 -- one byte more of the front
 pub front_more : (xs ys : List ℕ) (i b : ℕ) → drop i xs ≡ b ∷ ys → (take (i + 1) xs ≡ take i xs ++ b ∷ []) × (drop (i + 1) xs ≡ ys) × (i < length xs)

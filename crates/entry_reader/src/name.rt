@@ -7,7 +7,7 @@ ghost use Rattle.entry_reader.specs.Reads.{name_of};
 const COMPARED: usize = 16;
 
 // A name of an entry file: its bytes, a part of the file, and its place, which is that of its length byte.
-#[derive(Clone, Copy)]
+#[derive(Clone, Copy, Debug)]
 pub struct Name<'a> {
     pub(crate) text: &'a str,
     pub(crate) place: usize,
@@ -28,6 +28,7 @@ impl<'a> Name<'a> {
     }
 
     // Whether the names are equal: both have 16 bytes or more and agree in the first 16, or both are shorter and the same.
+    // No `==`, since that would read as the same bytes.
     pub fn equals(&self, other: &Name) -> bool
         ensures value { result ≡ same_name (name_of self.now) (name_of other.now) }
         ensures decides { Decides result (EqualTexts (name_of self.now).text (name_of other.now).text) }
@@ -35,8 +36,8 @@ impl<'a> Name<'a> {
     {
         let a = self.text.as_bytes();
         let b = other.text.as_bytes();
-        let n = a.len().min(COMPARED);
-        let m = b.len().min(COMPARED);
-        &a[0..n] == &b[0..m]
+        let n = COMPARED.min(a.len());
+        let m = COMPARED.min(b.len());
+        a[..n] == b[..m]
     }
 }

@@ -5,7 +5,7 @@ pub mod fields;
 pub mod position;
 
 // The bytes that are still to be read, and the place of the first of them in the file.
-#[derive(Drop)]
+#[derive(Debug, Drop)]
 pub struct Reader<'a> {
     rest: &'a [u8],
     place: usize,

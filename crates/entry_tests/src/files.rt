@@ -9,10 +9,8 @@ pub(crate) type Refusal = (u8, Layer, usize);
 
 // The refusal of a file, or none if it loads.
 pub(crate) fn refusal(heap: Global, file: &[u8]) -> Result<Option<Refusal>, AllocError> {
-    match load_grammar(file, GrammarMemory::reserve(heap)?) {
-        Ok(_) => Ok(None),
-        Err(fault) => Ok(Some((fault.number(), fault.layer(), fault.place()))),
-    }
+    let fault = load_grammar(file, GrammarMemory::reserve(heap)?).err();
+    Ok(fault.map(|fault| (fault.number(), fault.layer(), fault.place())))
 }
 
 pub(crate) fn push_count(file: &mut Vec<u8>, count: u16) -> Result<(), AllocError> {
@@ -20,18 +18,16 @@ pub(crate) fn push_count(file: &mut Vec<u8>, count: u16) -> Result<(), AllocErro
 }
 
 // A name of two bytes that no other number has, below 90 * 90.
-pub(crate) fn push_numbered_name(file: &mut Vec<u8>, number: u16) -> Result<(), AllocError> {
+pub(crate) fn numbered_name(number: u16) -> [u8; 3] {
     let high = 33 + (number / 90 % 90) as u8;
     let low = 33 + (number % 90) as u8;
-    file.extend_from_slice(&[2, high, low])
+    [2, high, low]
 }
 
 // A name of `len` bytes, all x but for the last.
 pub(crate) fn push_long_name(file: &mut Vec<u8>, len: u8, last: u8) -> Result<(), AllocError> {
     file.push(len)?;
-    for _ in 1..len {
-        file.push(b'x')?;
-    }
+    file.extend((1..len).map(|_| b'x'))?;
     file.push(last)?;
     Ok(())
 }
@@ -39,8 +35,5 @@ pub(crate) fn push_long_name(file: &mut Vec<u8>, len: u8, last: u8) -> Result<()
 // A count and that many names, numbered from `first` on.
 pub(crate) fn push_names(file: &mut Vec<u8>, first: u16, count: u16) -> Result<(), AllocError> {
     push_count(file, count)?;
-    for i in 0..count {
-        push_numbered_name(file, first.wrapping_add(i))?;
-    }
-    Ok(())
+    file.extend((first..first.saturating_add(count)).flat_map(numbered_name))
 }

@@ -12,13 +12,12 @@ fn sized(
     productions: u16,
     right: u16,
 ) -> Result<Vec<u8>, AllocError> {
-    let mut file = Vec::new(heap);
-    file.push(1)?;
+    let mut file = vec![in heap; 1]?;
     push_names(&mut file, 0, terminals)?;
     push_names(&mut file, 1000, nonterminals)?;
     push_count(&mut file, productions)?;
     for i in 0..productions {
-        push_numbered_name(&mut file, 1000)?;
+        file.extend_from_slice(&numbered_name(1000))?;
         push_names(&mut file, 0, if i == 0 { right } else { 0 })?;
     }
     Ok(file)
@@ -66,7 +65,7 @@ fn sum_of_right_sides(rt: HostRuntime) -> Result<(), Fail> {
         file.truncate(8);
         push_count(&mut file, 2)?;
         for right in [1000, second] {
-            push_numbered_name(&mut file, 1000)?;
+            file.extend_from_slice(&numbered_name(1000))?;
             push_names(&mut file, 0, right)?;
         }
         assert_eq!(rt; refusal(heap, &file)?, expected);

@@ -18,8 +18,7 @@ fn lengths(rt: HostRuntime) -> Result<(), Fail> {
         (32, 33, Some((4, Layer::Reader, 38))),
     ];
     for (first, second, expected) in cases {
-        let mut file = Vec::new(heap);
-        file.extend_from_slice(&[1, 0, 0])?;
+        let mut file = vec![in heap; 1, 0, 0]?;
         push_count(&mut file, 2)?;
         push_long_name(&mut file, first, b'a')?;
         push_long_name(&mut file, second, b'b')?;
@@ -34,8 +33,7 @@ fn lengths(rt: HostRuntime) -> Result<(), Fail> {
 fn left_name_of_another_ending(rt: HostRuntime) -> Result<(), Fail> {
     let heap = rt.alloc();
     for (len, expected) in [(16, Some((6, Layer::Names, 24))), (17, None)] {
-        let mut file = Vec::new(heap);
-        file.extend_from_slice(&[1, 0, 0])?;
+        let mut file = vec![in heap; 1, 0, 0]?;
         push_count(&mut file, 1)?;
         push_long_name(&mut file, len, b'a')?;
         push_count(&mut file, 1)?;

@@ -15,9 +15,7 @@ fn resolves_to(
     file: &[u8],
     expected: &[Result<usize, Dangling>],
 ) -> Result<(), Fail> {
-    let grammar = load_grammar(file, GrammarMemory::reserve(heap)?)
-        .ok()
-        .ok_or("refused")?;
+    let grammar = load_grammar(file, GrammarMemory::reserve(heap)?)?;
     let resolver = GrammarResolver::new(&grammar);
     for (reference, symbol) in expected.iter().enumerate() {
         assert_eq!(rt; resolver.resolve(reference), *symbol);

@@ -1,17 +1,17 @@
 -- One production after another. Assumes nothing.
-use Rattle.std.proofs.Common.{◌≡◌, ℕ, ◌+◌, ◌<◌, ◌≤◌, true, List, [], ◌++◌, map, length, get_or, drop, is_some, Some, None, Option, sym, refl, ap, ◌∙◌, arith}
+use Rattle.std.proofs.Common.{◌≡◌, ℕ, zero, ◌+◌, ◌<◌, ◌≤◌, true, List, [], ◌∷◌, ◌++◌, map, length, get_or, take, drop, is_some, Some, None, Option, sym, refl, ap, ◌∙◌, arith, length-drop}
 use Rattle.std.specs.Option.{option_map}
 use Rattle.std.specs.List.{slice_get}
-use Rattle.std.proofs.lemmas.List.{length-append, length-map}
-use Rattle.entry_format.specs.Grammars.{ProductionModel, references}
+use Rattle.std.proofs.lemmas.List.{length-map, length-take}
+use Rattle.entry_format.specs.Grammars.{ProductionModel}
 use Rattle.entry_format.specs.Reading.{NameModel}
 use Rattle.entry_reader.specs.declared.name.Name.{Name}
 use Rattle.entry_reader.specs.Reads.{name_of}
 use Rattle.entries.specs.declared.production.Production.{Production}
-use Rattle.entries.specs.Loaded.{production_of}
+use Rattle.entries.specs.Loaded.{production_of, Tiles}
 use Rattle.entries.proofs.Nth.{nth_get_d_map}
-use Rattle.report.specs.Reports.{production_text, productions_text}
-use Rattle.report.proofs.Steps.{drop_some}
+use Rattle.entries.proofs.Tiling.{tile_within}
+use Rattle.report.specs.Reports.{numbered, production_text, productions_text}
 
 -- what stands at a number past the end
 abbrev pub no_name : Name
@@ -20,28 +20,45 @@ no_name = record { text = record { ref_ptr = (0, 0); now = [] }; place = 0 }
 abbrev pub no_production : Production
 no_production = record { left = no_name; nonterminal = 0; first = 0; len = 0 }
 
--- a production's model, by the production
-pub model_at : (names : List Name) (ps : List Production) (models : List ProductionModel) (i : ℕ) → map (production_of names) ps ≡ models → i < length ps → slice_get models i ≡ Some (production_of names (get_or ps i no_production))
-model_at names ps models i model lt = ap (λ l. slice_get l i) (sym model) ∙ nth_get_d_map (production_of names) ps i no_production lt
+some_if_mapped : {A B : Type 0} (f : A → B) (o : Option A) (b : B) → option_map f o ≡ Some b → is_some o ≡ true
+some_if_mapped f None b e = absurd (let z : ◌≡◌ {A = ℕ} 0 1 = cc in omega arith)
+some_if_mapped f (Some a) b e = refl
 
-module _ (models : List ProductionModel) (i : ℕ) (m : ProductionModel) (here : slice_get models i ≡ Some m) where
-  -- it has a right side
-  pub right_some : {A : Type 0} (f : A → List NameModel) (o : Option A) → option_map f o ≡ option_map (λ p. p.right) (slice_get models i) → is_some o ≡ true
-  right_some f None e = absurd (let h = e ∙ ap (option_map (λ p. p.right)) here in let z : ◌≡◌ {A = ℕ} 0 1 = cc in omega arith)
-  right_some f (Some a) e = refl
+-- the right side that was found for a number is that of the production with that number
+module _
+    (references : List Name) (ps : List Production) (models : List ProductionModel) (i : ℕ)
+    (model : map (production_of references) ps ≡ models) (lt : i < length ps)
+    {A : Type 0} (f : A → List NameModel) (o : Option A) (found : option_map f o ≡ option_map (λ p. p.right) (slice_get models i))
+  where
+    here : option_map f o ≡ Some (production_of references (get_or ps i no_production)).right
+    here = found ∙ ap (λ l. option_map (λ p. p.right) (slice_get l i)) (sym model) ∙ ap (option_map (λ p. p.right)) (nth_get_d_map (production_of references) ps i no_production lt)
 
-  pub right_is : {A : Type 0} (f : A → List NameModel) (o : Option A) (a : A) → option_map f o ≡ option_map (λ p. p.right) (slice_get models i) → o ≡ Some a → f a ≡ m.right
-  right_is f o a e u = let h : Some (f a) ≡ Some m.right = sym (ap (option_map f) u) ∙ e ∙ ap (option_map (λ p. p.right)) here in cc
+    pub found_some : is_some o ≡ true
+    found_some = some_if_mapped f o _ here
 
-  -- the references before it, its own, and those behind it are all references
-  pub count_more : (first : ℕ) → first + length (references (drop i models)) ≡ length (references models) → first + length m.right + length (references (drop (i + 1) models)) ≡ length (references models)
-  count_more first count =
-      omega (arith, count, ap (λ ps. length (references ps)) (drop_some models i m here), length-append m.right (references (drop (i + 1) models)))
+    pub found_right : (a : A) → o ≡ Some a → f a ≡ (production_of references (get_or ps i no_production)).right
+    found_right a u = let h : Some (f a) ≡ Some (production_of references (get_or ps i no_production)).right = sym (ap (option_map f) u) ∙ here in cc
 
-  pub names_le : (names : List Name) (first : ℕ) → map name_of names ≡ m.right → first + length (references (drop i models)) ≡ length (references models) → first + length names ≤ length (references models)
-  names_le names first right count = omega (arith, ap length right, length-map names name_of, count_more first count)
+module _ (references : List Name) where
+  -- a right side within the references has its length
+  right_length : (p : Production) → p.first + p.len ≤ length references → length (production_of references p).right ≡ p.len
+  right_length p le = omega (arith, length-map (take p.len (drop p.first references)) name_of, length-take p.len (drop p.first references), length-drop p.first references)
 
-  -- its text is the first of what is to be written
-  pub text_more : (names : ℕ → Option ℕ) (first : ℕ) →
-      productions_text names i first (drop i models) ≡ production_text names i first m.left m.right ++ productions_text names (i + 1) (first + length m.right) (drop (i + 1) models)
-  text_more names first = ap (productions_text names i first) (drop_some models i m here)
+  module _ (names : ℕ → Option ℕ) where
+    -- production i, by its own first reference
+    abbrev pub line : ℕ → Production → List ℕ
+    line i p = production_text names i p.first (name_of p.left) (production_of references p).right
+
+    -- that is the first one behind the productions before it
+    pub tiled_text : (i at : ℕ) (ps : List Production) → Tiles at ps (length references) → numbered line i ps ≡ productions_text names i at (map (production_of references) ps)
+    tiled_text i at [] h = refl
+    tiled_text i at (p ∷ ps) h =
+        let within = tile_within at (p ∷ ps) (length references) zero p h (omega arith) in
+        let rest = tiled_text (i + 1) (at + p.len) ps h.1 ∙ ap (λ n. productions_text names (i + 1) (at + n) (map (production_of references) ps)) (sym (right_length p within)) in
+        λ k. production_text names i (h.0 k) (name_of p.left) (production_of references p).right ++ rest k
+
+  -- the right side that was found has few names
+  pub found_few : (ps : List Production) (i : ℕ) (names : List Name) → Tiles 0 ps (length references) → i < length ps → map name_of names ≡ (production_of references (get_or ps i no_production)).right → (get_or ps i no_production).first + length names ≤ length references
+  found_few ps i names tiles lt right =
+      let within = tile_within 0 ps (length references) i no_production tiles lt in
+      omega (arith, within, length-map names name_of, ap length right, right_length (get_or ps i no_production) within)

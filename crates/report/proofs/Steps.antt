@@ -1,9 +1,8 @@
 -- Lines that are written one behind the other. Assumes nothing.
-use Rattle.std.proofs.Common.{◌≡◌, ℕ, zero, suc, ◌+◌, ◌<◌, ◌≤◌, List, [], ◌∷◌, ◌++◌, length, drop, Some, None, sym, ap, ◌∙◌, ⊎_elim, append_assoc, append-nil, arith}
-use Rattle.std.specs.List.{slice_get}
-use Rattle.std.proofs.lemmas.List.{drop_more}
-use Rattle.std.proofs.lemmas.Option.{slice_get-get_or, slice_get_past as nth_past}
-use Rattle.std.proofs.lemmas.Bool.{cases_lt}
+use Rattle.std.proofs.Common.{◌≡◌, ℕ, ◌+◌, List, [], ◌∷◌, ◌++◌, map, sym, refl, ap, ◌∙◌, append_assoc, append-nil}
+use Rattle.std.specs.List.{enumerate_from, flat_map}
+use Rattle.std.proofs.lemmas.List.Folds.{flat_map-map}
+use Rattle.report.specs.Reports.{numbered}
 
 -- `piece` is written behind `text`; before it `before` was to be written, and then `rest`
 pub written_more : (text piece rest : List ℕ) {text' before whole : List ℕ} → text ++ before ≡ whole → before ≡ piece ++ rest → text' ≡ text ++ piece → text' ++ rest ≡ whole
@@ -13,21 +12,22 @@ written_more text piece rest inv step push = ap (λ t. t ++ rest) push ∙ appen
 pub written_all : (text : List ℕ) {before whole : List ℕ} → text ++ before ≡ whole → before ≡ [] → text ≡ whole
 written_all text inv end = sym (ap (λ b. text ++ b) end ∙ append-nil text) ∙ inv
 
--- a number that has no element is past the end
-pub past_none : {X : Type 0} (xs : List X) (i : ℕ) → slice_get xs i ≡ None → length xs ≤ i
-past_none [] i e = omega arith
-past_none (x ∷ xs) zero e = absurd (let z : ◌≡◌ {A = ℕ} 0 1 = cc in omega arith)
-past_none (x ∷ xs) (suc i) e = omega (arith, past_none xs i e)
+-- a line for each item with its number, where the items show the elements of a list
+module _ {X Y : Type 0} (line : ℕ → Y → List ℕ) (show : X → Y) where
+  abbrev line_of : ℕ × Y → List ℕ
+  line_of p = line p.0 p.1
 
-module _ {X : Type 0} (xs : List X) (i : ℕ) where
-  -- a number that has an element is below the length
-  pub within_some : (x : X) → slice_get xs i ≡ Some x → i < length xs
-  within_some x e = ⊎_elim (λ lt. lt) (λ le. let past = nth_past xs i le in let z : ◌≡◌ {A = ℕ} 0 1 = cc in absurd (omega arith)) (cases_lt i (length xs))
+  abbrev shown : ℕ × X → ℕ × Y
+  shown p = (p.0, show p.1)
 
-  -- what is left of a list from that number on
-  pub drop_some : (x : X) → slice_get xs i ≡ Some x → drop i xs ≡ x ∷ drop (i + 1) xs
-  drop_some x e =
-      let lt = within_some x e in
-      let read = slice_get-get_or xs i x lt in
-      let here = drop_more xs i x lt in
-      cc
+  numbered_flat : (i : ℕ) (ys : List Y) → flat_map line_of (enumerate_from i ys) ≡ numbered line i ys
+  numbered_flat i [] = refl
+  numbered_flat i (y ∷ ys) = ap (λ more. line i y ++ more) (numbered_flat (i + 1) ys)
+
+  pub numbered_items : (items : List (ℕ × X)) (ys : List Y) → map shown items ≡ enumerate_from 0 ys → flat_map (λ (p : ℕ × X). line p.0 (show p.1)) items ≡ numbered line 0 ys
+  numbered_items items ys e = sym (flat_map-map line_of shown items) ∙ ap (flat_map line_of) e ∙ numbered_flat 0 ys
+
+  -- a line for each element by what it shows
+  pub numbered_map : (i : ℕ) (xs : List X) → numbered (λ j x. line j (show x)) i xs ≡ numbered line i (map show xs)
+  numbered_map i [] = refl
+  numbered_map i (x ∷ xs) = ap (λ more. line i (show x) ++ more) (numbered_map (i + 1) xs)

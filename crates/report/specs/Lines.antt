@@ -1,10 +1,7 @@
 -- The lines that are written, by their bytes; each ends with a newline. Assumes nothing.
 use Rattle.std.specs.Prelude.{ℕ, cond, List, [], ◌∷◌, ◌++◌, length, Some, None, codes, decimal, Option, ◌==◌, nat_lt}
 use Rattle.entry_format.specs.declared.fault.LoadFault.{LoadFault}
-use Rattle.entry_format.specs.declared.fault.LoadFault.TheVariants.{Read, Names, WrongKind, OverLimit, TrailingBytes}
-use Rattle.entry_format.specs.declared.fault.NameFault.TheVariants.{Duplicate, NotNonterminal}
-use Rattle.entry_format.specs.declared.fault.ReadFault.TheVariants.{EndOfFile, BadName}
-use Rattle.entry_format.specs.Faults.{layer_name, number_of, layer_of, place_of}
+use Rattle.entry_format.specs.Faults.{layer_name, number_of, layer_of, place_of, reason_of}
 use Rattle.entry_format.specs.Grammars.{GrammarModel, references}
 use Rattle.entry_format.specs.Reading.{NameModel}
 
@@ -51,16 +48,6 @@ named_words None = codes " dangles" ++ newline
 abbrev pub reference_line : ℕ → NameModel → Option ℕ → List ℕ
 reference_line r n symbol =
     codes "  reference " ++ (decimal r ++ (codes " at byte " ++ (decimal n.at ++ (codes ": " ++ (n.text ++ named_words symbol)))))
-
--- what is wrong with a file
-abbrev pub reason_of : LoadFault → List ℕ
-reason_of (Read (EndOfFile p)) = codes "the file ends inside a field"
-reason_of (WrongKind p) = codes "the first byte is not the kind asked for"
-reason_of (OverLimit p) = codes "a count or a sum of counts is outside its limits"
-reason_of (Read (BadName p)) = codes "a name has a bad length or byte"
-reason_of (Names (Duplicate p)) = codes "an equal name is already declared"
-reason_of (Names (NotNonterminal p)) = codes "the left name is no nonterminal"
-reason_of (TrailingBytes p) = codes "there are bytes after the end"
 
 -- a refusal's number, layer, place and reason
 abbrev pub refusal_words : List ℕ → ℕ → List ℕ → ℕ → List ℕ → List ℕ

@@ -2,10 +2,10 @@
 ghost use Rattle.std.specs.Prelude.{◌≡◌, IfOk, string_bytes};
 ghost use Rattle.entry_reader.specs.Reads.{name_of};
 ghost use Rattle.entries.specs.Models.{grammar_of};
-ghost use Rattle.report.specs.Lines.{counted_noun, counts_line, symbol_line, production_line, reference_line, reason_of, refusal_line, entry_row, refusal_row};
+ghost use Rattle.report.specs.Lines.{counted_noun, counts_line, symbol_line, production_line, reference_line, refusal_line, entry_row, refusal_row};
 
 use entries::grammar::Grammar;
-use entry_format::fault::{LoadFault, NameFault, ReadFault};
+use entry_format::fault::LoadFault;
 use entry_reader::name::Name;
 use std::alloc::{AllocError, Global};
 
@@ -85,31 +85,15 @@ pub(crate) fn reference_line(
     }
 }
 
-// What is wrong with a refused file.
-fn reason(fault: LoadFault) -> &'static str
-    ensures { result.now ≡ reason_of fault }
-{
-    match fault {
-        LoadFault::Read(ReadFault::EndOfFile { .. }) => "the file ends inside a field",
-        LoadFault::WrongKind { .. } => "the first byte is not the kind asked for",
-        LoadFault::OverLimit { .. } => "a count or a sum of counts is outside its limits",
-        LoadFault::Read(ReadFault::BadName { .. }) => "a name has a bad length or byte",
-        LoadFault::Names(NameFault::Duplicate { .. }) => "an equal name is already declared",
-        LoadFault::Names(NameFault::NotNonterminal { .. }) => "the left name is no nonterminal",
-        LoadFault::TrailingBytes { .. } => "there are bytes after the end",
-    }
-}
-
 // A refused file, in words.
 pub fn refusal_line(heap: Global, file: &str, fault: LoadFault) -> Result<String, AllocError>
     ensures { IfOk result (λ t. string_bytes t ≡ refusal_line file.now fault) }
 {
     let number = fault.number();
-    let layer = fault.layer().name();
+    let layer = fault.layer();
     let place = fault.place();
-    let reason = reason(fault);
     format!(in heap;
-        "{file}: refused with number {number} by the {layer} layer at byte {place}: {reason}\n"
+        "{file}: refused with number {number} by the {layer} layer at byte {place}: {fault}\n"
     )
 }
 
@@ -124,8 +108,10 @@ pub fn entry_row(heap: Global, file: &str) -> Result<String, AllocError>
 pub fn refusal_row(heap: Global, file: &str, fault: LoadFault) -> Result<String, AllocError>
     ensures { IfOk result (λ t. string_bytes t ≡ refusal_row file.now fault) }
 {
-    let number = fault.number();
-    let layer = fault.layer().name();
-    let place = fault.place();
-    format!(in heap; "refused\t{file}\t{number}\t{layer}\t{place}\n")
+    format!(in heap;
+        "refused\t{file}\t{}\t{}\t{}\n",
+        fault.number(),
+        fault.layer(),
+        fault.place()
+    )
 }

@@ -7,6 +7,7 @@ ghost use Rattle.report.specs.Reports.{symbols_text, production_text, production
 
 use crate::lines::{counts_line, production_line, reference_line, symbol_line};
 use entries::grammar::Grammar;
+use entries::production::Production;
 use entries::resolver::GrammarResolver;
 use entry_reader::name::Name;
 use references::{Memo, Memoized, Resolver};
@@ -16,33 +17,32 @@ use std::alloc::{AllocError, Global};
 fn symbols_text(heap: Global, grammar: &Grammar) -> Result<String, AllocError>
     ensures { IfOk result (λ t. string_bytes t ≡ symbols_text (grammar_of grammar.now)) }
 {
-    let terminals = grammar.terminals().len();
+    let terminals = grammar.terminals();
+    let symbols = terminals.iter().chain(grammar.nonterminals());
     let mut lines = String::new(heap);
-    let mut symbol = 0;
-    while let Some(name) = grammar.symbol_name(symbol) {
-        lines.push_str(symbol_line(heap, terminals, symbol, &name)?.as_str())?;
-        symbol += 1;
+    for (symbol, name) in symbols.enumerate() {
+        lines.push_str(&symbol_line(heap, terminals.len(), symbol, name)?)?;
     }
     Ok(lines)
 }
 
-// A production and its right-side names, the first of them reference `first`.
+// A production and its right-side names.
 fn production_text<R: Resolver>(
     heap: Global,
     number: usize,
-    first: usize,
-    left: &Name,
+    production: &Production,
     right: &[Name],
     resolver: &R,
 ) -> Result<String, AllocError>
-    requires { first + length right.now < 2 ^ 64 }
-    ensures { IfOk result (λ t. string_bytes t ≡ production_text (R.Resolver.names resolver.now) number first (name_of left.now) (map name_of right.now)) }
+    requires { production.now.first + length right.now < 2 ^ 64 }
+    ensures { IfOk result (λ t. string_bytes t ≡ production_text (R.Resolver.names resolver.now) number production.now.first (name_of production.now.left) (map name_of right.now)) }
 {
-    let mut lines = production_line(heap, number, left, right.len())?;
+    let first = production.first();
+    let mut lines = production_line(heap, number, &production.left(), right.len())?;
     for (i, name) in right.iter().enumerate() {
         let reference = first + i;
         let symbol = resolver.resolve(reference).ok();
-        lines.push_str(reference_line(heap, reference, name, symbol)?.as_str())?;
+        lines.push_str(&reference_line(heap, reference, name, symbol)?)?;
     }
     Ok(lines)
 }
@@ -56,13 +56,9 @@ fn productions_text<R: Resolver>(
     ensures { IfOk result (λ t. string_bytes t ≡ productions_text (R.Resolver.names resolver.now) 0 0 (grammar_of grammar.now).productions) }
 {
     let mut lines = String::new(heap);
-    let mut first = 0;
     for (number, production) in grammar.productions().iter().enumerate() {
         let right = grammar.right_side(number).unwrap();
-        let left = production.left();
-        let text = production_text(heap, number, first, &left, right, resolver)?;
-        lines.push_str(text.as_str())?;
-        first += right.len();
+        lines.push_str(&production_text(heap, number, production, right, resolver)?)?;
     }
     Ok(lines)
 }
@@ -77,8 +73,8 @@ pub fn grammar_report<R: Resolver>(
     ensures { IfOk result (λ t. string_bytes t ≡ grammar_report file.now (grammar_of grammar.now) (R.Resolver.names resolver.now)) }
 {
     let mut report = counts_line(heap, file, grammar)?;
-    report.push_str(symbols_text(heap, grammar)?.as_str())?;
-    report.push_str(productions_text(heap, grammar, resolver)?.as_str())?;
+    report.push_str(&symbols_text(heap, grammar)?)?;
+    report.push_str(&productions_text(heap, grammar, resolver)?)?;
     Ok(report)
 }
 

@@ -1,5 +1,5 @@
 // Command lines, and lines that are written, on examples.
-use crate::command::{Command, Format, parse};
+use crate::command::{Command, Format, UsageError, parse};
 use crate::lines::refusal_line;
 use crate::reports::text_report;
 use entries::grammar::GrammarMemory;
@@ -9,37 +9,43 @@ use entry_format::fault::LoadFault;
 use std::alloc::{AllocError, Global};
 use std::test::Fail;
 
-fn parse_words(heap: Global, words: &[&str]) -> Result<Command, AllocError> {
-    let mut args = Vec::new(heap);
+fn strings(heap: Global, words: &[&str]) -> Result<Vec<String>, AllocError> {
+    let mut strings = Vec::new(heap);
     for word in words {
-        args.push(String::from_str(heap, word)?)?;
+        strings.push(String::from_str(heap, word)?)?;
     }
-    Ok(parse(args.as_slice()))
+    Ok(strings)
 }
 
 #[test]
-fn parses_command_lines(rt: HostRuntime) -> Result<(), Fail> {
+fn parses_reports(rt: HostRuntime) -> Result<(), Fail> {
     let heap = rt.alloc();
-    assert_eq!(rt; parse_words(heap, &[])?, Command::Sample);
-    assert_eq!(rt; parse_words(heap, &["help", "report"])?, Command::Usage);
-    assert_eq!(rt;
-        parse_words(heap, &["report", "a", "b"])?,
-        Command::Report {
-            format: Format::Text,
-            first: 1,
-        }
-    );
-    assert_eq!(rt;
-        parse_words(heap, &["report", "--format", "tsv", "a"])?,
-        Command::Report {
-            format: Format::Tsv,
-            first: 3,
-        }
-    );
-    assert_eq!(rt;
-        parse_words(heap, &["report", "--format", "tsv"])?,
-        Command::Usage
-    );
+    let cases: [(&[&str], Format, &[&str]); 2] = [
+        (&["report", "a", "b"], Format::Text, &["a", "b"]),
+        (&["report", "--format", "tsv", "a"], Format::Tsv, &["a"]),
+    ];
+    for (words, format, files) in cases {
+        let args = strings(heap, words)?;
+        let files = strings(heap, files)?;
+        assert_eq!(rt;
+            parse(&args),
+            Ok(Command::Report {
+                format,
+                files: &files
+            })
+        );
+    }
+    Ok(())
+}
+
+#[test]
+fn parses_no_files(rt: HostRuntime) -> Result<(), Fail> {
+    let heap = rt.alloc();
+    assert_eq!(rt; parse(&[]), Ok(Command::Sample));
+    let help = strings(heap, &["help", "report"])?;
+    assert_eq!(rt; parse(&help), Err(UsageError));
+    let format = strings(heap, &["report", "--format", "tsv"])?;
+    assert_eq!(rt; parse(&format), Err(UsageError));
     Ok(())
 }
 

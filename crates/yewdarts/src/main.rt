@@ -11,79 +11,84 @@ use report::reports::text_report;
 use std::process::ExitCode;
 use std::{env, fs, io};
 
-fn print_grammar(
-    rt: &HostRuntime,
+// Prints reports in one format.
+#[derive(Clone, Copy)]
+struct Reporter<'a> {
+    rt: &'a HostRuntime,
     format: Format,
-    file: &str,
-    grammar: &Grammar,
-) -> io::Result<()> {
-    match format {
-        Format::Text => rt.print(text_report(rt.alloc(), file, grammar)?),
-        Format::Tsv => rt.print(entry_row(rt.alloc(), file)?),
-    }
 }
 
-fn print_refusal(rt: &HostRuntime, format: Format, file: &str, fault: LoadFault) -> io::Result<()> {
-    match format {
-        Format::Text => rt.eprint(refusal_line(rt.alloc(), file, fault)?),
-        Format::Tsv => rt.print(refusal_row(rt.alloc(), file, fault)?),
+impl Reporter<'_> {
+    fn print_grammar(&self, file: &str, grammar: &Grammar) -> io::Result<()> {
+        let heap = self.rt.alloc();
+        match self.format {
+            Format::Text => self.rt.print(text_report(heap, file, grammar)?),
+            Format::Tsv => self.rt.print(entry_row(heap, file)?),
+        }
     }
-}
 
-// Reports on the bytes of a file, and tells whether they were loaded.
-fn report_bytes(rt: &HostRuntime, format: Format, file: &str, bytes: &[u8]) -> io::Result<bool> {
-    let memory = GrammarMemory::reserve(rt.alloc())?;
-    match load_grammar(bytes, memory) {
-        Ok(grammar) => {
-            print_grammar(rt, format, file, &grammar)?;
-            Ok(true)
-        }
-        Err(fault) => {
-            print_refusal(rt, format, file, fault)?;
-            Ok(false)
+    fn print_refusal(&self, file: &str, fault: LoadFault) -> io::Result<()> {
+        let heap = self.rt.alloc();
+        match self.format {
+            Format::Text => self.rt.eprint(refusal_line(heap, file, fault)?),
+            Format::Tsv => self.rt.print(refusal_row(heap, file, fault)?),
         }
     }
-}
 
-// Reports on a file, and tells whether it was read and loaded.
-fn report_file(rt: &HostRuntime, format: Format, file: &str) -> io::Result<bool> {
-    match fs::read(rt, file) {
-        Ok(bytes) => report_bytes(rt, format, file, bytes.as_slice()),
-        Err(error) => {
-            eprintln!(rt; "{file}: cannot be read: {error}")?;
-            Ok(false)
+    // Reports on the bytes of a file, and tells whether they were loaded.
+    fn report_bytes(&self, file: &str, bytes: &[u8]) -> io::Result<bool> {
+        let memory = GrammarMemory::reserve(self.rt.alloc())?;
+        match load_grammar(bytes, memory) {
+            Ok(grammar) => {
+                self.print_grammar(file, &grammar)?;
+                Ok(true)
+            }
+            Err(fault) => {
+                self.print_refusal(file, fault)?;
+                Ok(false)
+            }
         }
     }
-}
 
-// Reports on the files from argument `first` on, and tells whether all were read and loaded.
-fn report_files(
-    rt: &HostRuntime,
-    format: Format,
-    args: &[String],
-    first: usize,
-) -> io::Result<bool> {
-    let mut all = true;
-    for file in args.iter().skip(first) {
-        if !report_file(rt, format, file.as_str())? {
-            all = false;
+    // Reports on a file, and tells whether it was read and loaded.
+    fn report_file(&self, file: &str) -> io::Result<bool> {
+        match fs::read(self.rt, file) {
+            Ok(bytes) => self.report_bytes(file, &bytes),
+            Err(error) => {
+                eprintln!(self.rt; "{file}: cannot be read: {error}")?;
+                Ok(false)
+            }
         }
     }
-    Ok(all)
+
+    // Reports on the files, and tells whether all were read and loaded.
+    fn report_files(&self, files: &[String]) -> io::Result<bool> {
+        let mut all = true;
+        for file in files {
+            all &= self.report_file(file)?;
+        }
+        Ok(all)
+    }
 }
 
 // Does what the arguments ask for, and tells whether it succeeded.
 fn run(rt: &HostRuntime) -> io::Result<bool> {
     let args: Vec<String> = env::args(rt)?.skip(1).collect(rt.alloc())?;
-    match parse(args.as_slice()) {
-        Command::Sample => report_bytes(rt, Format::Text, "sample", sample_grammar()),
-        Command::Help => {
+    match parse(&args) {
+        Ok(Command::Sample) => {
+            let reporter = Reporter {
+                rt,
+                format: Format::Text,
+            };
+            reporter.report_bytes("sample", sample_grammar())
+        }
+        Ok(Command::Help) => {
             rt.print(USAGE)?;
             Ok(true)
         }
-        Command::Report { format, first } => report_files(rt, format, args.as_slice(), first),
-        Command::Usage => {
-            rt.eprint(USAGE)?;
+        Ok(Command::Report { format, files }) => Reporter { rt, format }.report_files(files),
+        Err(error) => {
+            rt.eprint(error)?;
             Ok(false)
         }
     }

@@ -1,18 +1,12 @@
 // The fields of a file.
 ghost use Rattle.std.specs.Prelude.{◌≡◌, ◌≤◌, [], length, OnOk};
-ghost use Rattle.entry_format.specs.Reading.{printable, read_byte, read_count, read_name, read_name_bytes};
+ghost use Rattle.entry_format.specs.Reading.{read_byte, read_count, read_name, read_name_bytes};
 ghost use Rattle.entry_reader.specs.Reads.{input_of, name_of, reads, passed};
 
 use crate::name::Name;
 use crate::reader::Reader;
 use entry_format::fault::ReadFault;
 use std::str::from_utf8;
-
-fn is_printable(b: u8) -> bool
-    ensures { result ≡ printable b }
-{
-    0x21 <= b && b <= 0x7E
-}
 
 impl<'a> Reader<'a> {
     pub fn byte(&mut self) -> Result<u8, ReadFault>
@@ -32,7 +26,7 @@ impl<'a> Reader<'a> {
     {
         let high = self.byte()?;
         let low = self.byte()?;
-        Ok(u16::from(high) * 256 + u16::from(low))
+        Ok(u16::from_be_bytes([high, low]))
     }
 
     // Passes the `len` bytes of a name.
@@ -40,10 +34,10 @@ impl<'a> Reader<'a> {
         ensures read { passed len self.old result self.new ≡ read_name_bytes len [] (input_of self.old) }
         ensures within { OnOk result (len ≤ length self.old.rest.now) }
     {
-        for i in 0..len {
+        for _ in 0..len {
             let place = self.place;
             let b = self.byte()?;
-            if !is_printable(b) {
+            if !b.is_ascii_graphic() {
                 return Err(ReadFault::BadName { place });
             }
         }
@@ -56,10 +50,7 @@ impl<'a> Reader<'a> {
     {
         let start = self.rest;
         self.pass_name(len)?;
-        match from_utf8(&start[0..usize::from(len)]) {
-            Ok(text) => Ok(text),
-            Err(_) => unreachable(),
-        }
+        Ok(from_utf8(&start[..usize::from(len)]).unwrap())
     }
 
     pub fn name(&mut self) -> Result<Name<'a>, ReadFault>
@@ -67,7 +58,7 @@ impl<'a> Reader<'a> {
     {
         let place = self.place;
         let len = self.byte()?;
-        if len < 1 || len > 32 {
+        if !(1..=32).contains(&len) {
             return Err(ReadFault::BadName { place });
         }
         let text = self.name_text(len)?;

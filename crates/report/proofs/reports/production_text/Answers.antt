@@ -5,7 +5,7 @@ use Rattle.std.proofs.lemmas.Slice.{pushed}
 use Rattle.references.proofs.Resolved.{ok_resolved}
 use Rattle.entry_reader.specs.Reads.{name_of}
 use Rattle.report.specs.Lines.{production_line, reference_line}
-use Rattle.report.specs.Reports.{reference_lines}
+use Rattle.report.specs.Reports.{reference_lines, production_text}
 use Rattle.report.proofs.Productions.{no_name}
 use Rattle.report.proofs.Steps.{written_more, written_all}
 use Rattle.report.proofs.reports.production_text.Goals as goal
@@ -14,8 +14,9 @@ pub loop-i-init : goal.loop-i-init
 loop-i-init g c =
     let names = g.R.Resolver.names c.args.resolver.now in
     let right = map name_of c.args.right.now in
-    let head = c.in_ok-lines.ensures ∙ ap (production_line c.args.number (name_of c.args.left.now)) (sym (length-map c.args.right.now name_of)) in
-    let none : c.args.first + 0 ≡ c.args.first = omega arith in
+    let size = sym (length-map c.args.right.now name_of) in
+    let head = c.in_ok-lines.ensures ∙ (λ k. production_line c.args.number (name_of (c.left.ensures k)) (size k)) in
+    let none : c.first-first.result + 0 ≡ c.first-first.result = omega arith in
     λ k. head k ++ reference_lines names (none k) right
 
 pub loop-i-preserved : goal.loop-i-preserved
@@ -23,16 +24,16 @@ loop-i-preserved g c =
     let names = g.R.Resolver.names c.args.resolver.now in
     let right = map name_of c.args.right.now in
     let i = c.loop-i.i in
-    let r = c.args.first + i in
+    let r = c.first-first.result + i in
     let name = name_of (get_or c.args.right.now i no_name) in
     let lt : i < length right = omega (arith, length-map c.args.right.now name_of, c.loop-i-test.true) in
-    let next : r + 1 ≡ c.args.first + (i + 1) = omega arith in
+    let next : r + 1 ≡ c.first-first.result + (i + 1) = omega arith in
     let symbol = c.ok-symbol.ensures.value ∙ ap result_ok c.resolve.ensures ∙ ok_resolved r (names r) in
-    let piece = c.as_str.ensures.value ∙ c.in_ok-reference_line.ensures ∙ ap (reference_line r name) symbol in
+    let piece = c.deref.ensures ∙ c.in_ok-reference_line.ensures ∙ ap (reference_line r name) symbol in
     let step = at_drop_more (reference_lines names r) right i (name_of no_name) lt
     ∙ (λ k. reference_line r (get_or-map name_of c.args.right.now i no_name (name_of no_name) c.loop-i-test.true k) (names r) ++ reference_lines names (next k) (drop (i + 1) right)) in
-    let push = pushed c.as_str.result.now refl c.in_ok-push_str.was c.push_str.ensures.bytes in
-    written_more (string_bytes c.loop-i.lines) (reference_line r name (names r)) (reference_lines names (c.args.first + (i + 1)) (drop (i + 1) right)) c.loop-i.invariant step (push ∙ ap (λ t. string_bytes c.loop-i.lines ++ t) piece)
+    let push = pushed c.deref.result.now refl c.in_ok-push_str.was c.push_str.ensures.bytes in
+    written_more (string_bytes c.loop-i.lines) (reference_line r name (names r)) (reference_lines names (c.first-first.result + (i + 1)) (drop (i + 1) right)) c.loop-i.invariant step (push ∙ ap (λ t. string_bytes c.loop-i.lines ++ t) piece)
 
 pub returns : goal.returns
 returns g c =
@@ -40,4 +41,5 @@ returns g c =
     let right = map name_of c.args.right.now in
     let i = c.loop-i.i in
     let le : length right ≤ i = omega (arith, length-map c.args.right.now name_of, c.loop-i-test.false) in
-    written_all (string_bytes c.loop-i.lines) c.loop-i.invariant (at_drop_all (reference_lines names (c.args.first + i)) right i le)
+    written_all (string_bytes c.loop-i.lines) c.loop-i.invariant (at_drop_all (reference_lines names (c.first-first.result + i)) right i le)
+    ∙ ap (λ r. production_text names c.args.number r (name_of c.args.production.now.left) right) c.first-first.ensures

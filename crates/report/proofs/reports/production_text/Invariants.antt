@@ -7,4 +7,4 @@ abbrev pub invariant-loop-i : goal.invariant-loop-i
 invariant-loop-i g l =
     let names = g.R.Resolver.names l.resolver in
     let right = map name_of l.right in
-    string_bytes l.lines ++ reference_lines names (l.first + l.i) (drop l.i right) ≡ production_text names l.number l.first (name_of l.left) right
+    string_bytes l.lines ++ reference_lines names (l.first + l.i) (drop l.i right) ≡ production_text names l.number l.first (name_of l.production.left) right

@@ -5,37 +5,11 @@ use attribute_table::row::{Mark, Row};
 use attribute_table::session::{OpenSession, Phase, Rounded, Session, SettledSession};
 use attribute_table::table::Table;
 use equations::System;
-use example_system::parts::{ExampleSystem, Instance, Operand, Step, Value};
+use example_system::parts::{ExampleSystem, Instance, Value, singleton};
 use lattices::Lattice;
-use lattices::number_set::NumberSet;
-use lattices::pair::Pair;
 use references::Dangling;
 use std::alloc::{AllocError, Global};
 use std::test::Fail;
-
-fn value(yes: bool, number: usize) -> Value {
-    Pair {
-        first: yes,
-        second: NumberSet::empty().insert(number),
-    }
-}
-
-// An instance that joins its targets to its start.
-fn joins(
-    heap: Global,
-    start: Value,
-    targets: &[Result<usize, Dangling>],
-) -> Result<Instance, AllocError> {
-    let mut operands = Vec::new(heap);
-    for target in targets {
-        let step = Step::Join;
-        operands.push(Operand {
-            target: *target,
-            step,
-        })?;
-    }
-    Ok(Instance { start, operands })
-}
 
 // 0 and 1 read each other, 2 reads itself and 0, 3 dangles at its second and third operand, 4 reads 3.
 fn five(heap: Global) -> Result<ExampleSystem, AllocError> {
@@ -45,11 +19,11 @@ fn five(heap: Global) -> Result<ExampleSystem, AllocError> {
         Err(Dangling { reference: 6 }),
     ];
     let instances = vec![in heap;
-        joins(heap, value(false, 1), &[Ok(1)])?,
-        joins(heap, value(true, 2), &[Ok(0)])?,
-        joins(heap, value(false, 3), &[Ok(2), Ok(0)])?,
-        joins(heap, value(false, 4), &dangling)?,
-        joins(heap, value(false, 5), &[Ok(3)])?,
+        Instance::joining(heap, singleton(false, 1), &[Ok(1)])?,
+        Instance::joining(heap, singleton(true, 2), &[Ok(0)])?,
+        Instance::joining(heap, singleton(false, 3), &[Ok(2), Ok(0)])?,
+        Instance::joining(heap, singleton(false, 4), &dangling)?,
+        Instance::joining(heap, singleton(false, 5), &[Ok(3)])?,
     ]?;
     Ok(ExampleSystem { instances })
 }
@@ -58,7 +32,7 @@ fn five(heap: Global) -> Result<ExampleSystem, AllocError> {
 fn some_rows(heap: Global, count: usize) -> Result<Vec<Row<Value>>, AllocError> {
     let row = Row {
         mark: Mark::Pending,
-        value: value(false, 9),
+        value: singleton(false, 9),
     };
     Ok(vec![in heap; row; count]?)
 }
@@ -185,12 +159,12 @@ fn making(rt: HostRuntime) -> Result<(), Fail> {
     let system = five(heap)?;
     let mut short = some_rows(heap, 4)?;
     assert_eq!(rt; numbered(Table::new(&system, &mut short)), Err(10));
-    assert!(rt; has(&short, 0, Mark::Pending, value(false, 9)));
+    assert!(rt; has(&short, 0, Mark::Pending, singleton(false, 9)));
     let mut rows = some_rows(heap, 6)?;
     assert_eq!(rt; numbered(Table::new(&system, &mut rows)), Ok(()));
-    let bottom = <Pair<bool, NumberSet> as Lattice>::bottom();
+    let bottom = Value::bottom();
     assert!(rt; has(&rows, 4, Mark::Untouched, bottom));
-    assert!(rt; has(&rows, 5, Mark::Pending, value(false, 9)));
+    assert!(rt; has(&rows, 5, Mark::Pending, singleton(false, 9)));
     Ok(())
 }
 
@@ -264,7 +238,7 @@ fn session_of_a_cycle(rt: HostRuntime) -> Result<(), Fail> {
     let (changed, session) = lent.settle(session)?;
     assert_eq!(rt; changed, [2, 1]);
     assert_eq!(rt; lent.close(session), Ok((2, 3)));
-    let both = value(true, 1).join(value(true, 2));
+    let both = singleton(true, 1).join(singleton(true, 2));
     assert!(rt; has(&lent.rows, 0, Mark::Final, both));
     assert!(rt; has(&lent.rows, 1, Mark::Final, both));
     Ok(())
@@ -279,7 +253,9 @@ fn interrupted_and_given_up(rt: HostRuntime) -> Result<(), Fail> {
     assert_eq!(rt; lent.read(0), Err(16));
     assert_eq!(rt; lent.give_up(session), 3);
     assert_eq!(rt; lent.demand(2), Ok(()));
-    let three = value(true, 1).join(value(true, 2)).join(value(true, 3));
+    let three = singleton(true, 1)
+        .join(singleton(true, 2))
+        .join(singleton(true, 3));
     assert!(rt; has(&lent.rows, 2, Mark::Final, three));
     Ok(())
 }

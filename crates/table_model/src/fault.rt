@@ -1,6 +1,6 @@
 // What a call of a table can be refused with.
-ghost use Rattle.std.specs.Prelude.{◌≡◌};
-ghost use Rattle.table_model.specs.Faults.{number_of};
+ghost use Rattle.std.specs.Prelude.{◌≡◌, Some};
+ghost use Rattle.table_model.specs.Faults.{dangling_words, number_of, reason_of};
 ghost use Rattle.table_model.specs.declared.fault.TableFault.TheVariants.{Dangling};
 
 use references::Dangling;
@@ -62,20 +62,34 @@ impl From<DanglingOperand> for TableFault {
     }
 }
 
+impl fmt::Display for DanglingOperand {
+    ghost output = { λ d. Some (dangling_words d) };
+
+    fn fmt<W: fmt::Write>(&self, f: &mut fmt::Formatter<W>) -> fmt::Result {
+        let DanglingOperand {
+            instance,
+            operand,
+            dangling: Dangling { reference },
+        } = *self;
+        write!(
+            f,
+            "operand {operand} of instance {instance} dangles at reference {reference}"
+        )
+    }
+}
+
+impl Error for DanglingOperand {}
+
 impl fmt::Display for TableFault {
+    ghost output = { λ fault. Some (reason_of fault) };
+
     fn fmt<W: fmt::Write>(&self, f: &mut fmt::Formatter<W>) -> fmt::Result {
         match self {
             TableFault::TooShort => f.write_str("the rows or the work list are too short"),
             TableFault::TooHigh => f.write_str("the lattice is too high"),
             TableFault::NoInstance => f.write_str("there is no such instance"),
             TableFault::NotIdle => f.write_str("the table is not idle"),
-            TableFault::Dangling(
-                DanglingOperand {
-                    instance,
-                    operand,
-                    ..
-                },
-            ) => write!(f, "operand {operand} of instance {instance} dangles"),
+            TableFault::Dangling(dangling) => dangling.fmt(f),
             TableFault::AlreadyFinal => f.write_str("the instance is already final"),
             TableFault::NotFinal => f.write_str("the row is not final"),
             TableFault::NoFit => f.write_str("the session does not fit the table"),

@@ -4,6 +4,7 @@ ghost use Rattle.std.specs.Prelude.{◌≡◌};
 use entry_reader::name::Name;
 
 // A production: its left name, the number of the nonterminal that this names, and its right side, `len` references from `first` on.
+// References are numbered over the whole file and lie in one vector, whose memory is reserved before the file is read.
 #[derive(Clone, Copy)]
 pub struct Production<'a> {
     pub(crate) left: Name<'a>,

@@ -2,14 +2,14 @@
 use Rattle.std.proofs.Common.{◌≡◌, ℕ, zero, ◌+◌, ◌<◌, ◌≤◌, true, List, [], ◌∷◌, ◌++◌, map, length, get_or, take, drop, is_some, Some, None, Option, sym, refl, ap, ◌∙◌, arith, length-drop}
 use Rattle.std.specs.Option.{option_map}
 use Rattle.std.specs.List.{slice_get}
-use Rattle.std.proofs.lemmas.List.{length-map, length-take}
+use Rattle.std.proofs.lemmas.List.{length-map, length-take, get_or-map}
+use Rattle.std.proofs.lemmas.Option.{slice_get-get_or}
 use Rattle.entry_format.specs.Grammars.{ProductionModel}
 use Rattle.entry_format.specs.Reading.{NameModel}
 use Rattle.entry_reader.specs.declared.name.Name.{Name}
 use Rattle.entry_reader.specs.Reads.{name_of}
 use Rattle.entries.specs.declared.production.Production.{Production}
 use Rattle.entries.specs.Loaded.{production_of, Tiles}
-use Rattle.entries.proofs.Nth.{nth_get_d_map}
 use Rattle.entries.proofs.Tiling.{tile_within}
 use Rattle.report.specs.Reports.{numbered, production_text, productions_text}
 
@@ -24,6 +24,12 @@ some_if_mapped : {A B : Type 0} (f : A → B) (o : Option A) (b : B) → option_
 some_if_mapped f None b e = absurd (let z : ◌≡◌ {A = ℕ} 0 1 = cc in omega arith)
 some_if_mapped f (Some a) b e = refl
 
+-- what stands at a number within the list, of what its items stand for
+mapped_at : {X Y : Type 0} (f : X → Y) (xs : List X) (i : ℕ) (d : X) → i < length xs → slice_get (map f xs) i ≡ Some (f (get_or xs i d))
+mapped_at f xs i d lt =
+    let lt' : i < length (map f xs) = simp length-map lt in
+    slice_get-get_or (map f xs) i (f d) lt' ∙ ap Some (get_or-map f xs i d (f d) lt)
+
 -- the right side that was found for a number is that of the production with that number
 module _
     (references : List Name) (ps : List Production) (models : List ProductionModel) (i : ℕ)
@@ -31,7 +37,7 @@ module _
     {A : Type 0} (f : A → List NameModel) (o : Option A) (found : option_map f o ≡ option_map (λ p. p.right) (slice_get models i))
   where
     here : option_map f o ≡ Some (production_of references (get_or ps i no_production)).right
-    here = found ∙ ap (λ l. option_map (λ p. p.right) (slice_get l i)) (sym model) ∙ ap (option_map (λ p. p.right)) (nth_get_d_map (production_of references) ps i no_production lt)
+    here = found ∙ ap (λ l. option_map (λ p. p.right) (slice_get l i)) (sym model) ∙ ap (option_map (λ p. p.right)) (mapped_at (production_of references) ps i no_production lt)
 
     pub found_some : is_some o ≡ true
     found_some = some_if_mapped f o _ here

@@ -18,7 +18,7 @@ fn strings(heap: Global, words: &[&str]) -> Result<Vec<String>, AllocError> {
 }
 
 #[test]
-fn parses_reports(rt: HostRuntime) -> Result<(), Fail> {
+fn parses_command_lines(rt: HostRuntime) -> Result<(), Fail> {
     let heap = rt.alloc();
     let cases: [(&[&str], Format, &[&str]); 2] = [
         (&["report", "a", "b"], Format::Text, &["a", "b"]),

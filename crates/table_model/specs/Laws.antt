@@ -48,25 +48,27 @@ module _ {V : Type 0} (bot : V) (le : V → V → Type 0) (same : V → V → Bo
   abbrev pub SameFinal : TableModel V → TableModel V → Type 0
   SameFinal t u = (j : ℕ) → j < e.size → ((t.rows j).mark ≡ Final) ↔ ((u.rows j).mark ≡ Final)
 
-  -- Two new tables get the same demands in any two orders.
-  abbrev pub DemandsCommute : Type 0
-  DemandsCommute =
-      (begin₁ begin₂ : TableModel V) → New bot e begin₁ → New bot e begin₂ →
-      (log₁ log₂ : Log V) (t₁ t₂ : TableModel V) → Run bot same e begin₁ log₁ t₁ → Run bot same e begin₂ log₂ t₂ →
-      (is₁ is₂ : List ℕ) → Demands log₁ is₁ → Demands log₂ is₂ → IsPermutation is₁ is₂ →
+  -- The runs answer every demand alike, and end with the same final rows, which have the same values.
+  abbrev pub SameDemanded : Log V → Log V → TableModel V → TableModel V → Type 0
+  SameDemanded log₁ log₂ t₁ t₂ =
       ((i : ℕ) (a b : Answer V) → In (event (demand_at i) a) log₁ → In (event (demand_at i) b) log₂ → SameOutcome a b)
-      × ((j : ℕ) → j < e.size → ((t₁.rows j).mark ≡ Final) ↔ ((t₂.rows j).mark ≡ Final))
+      × SameFinal t₁ t₂
       × ((j : ℕ) → j < e.size → (t₁.rows j).mark ≡ Final → (t₁.rows j).value ≡ (t₂.rows j).value)
+
+  -- Two tables get the same demands in any two orders.
+  abbrev pub CommuteFrom : TableModel V → TableModel V → Type 0
+  CommuteFrom begin₁ begin₂ =
+      (log₁ log₂ : Log V) (t₁ t₂ : TableModel V) → Run bot same e begin₁ log₁ t₁ → Run bot same e begin₂ log₂ t₂ →
+      (is₁ is₂ : List ℕ) → Demands log₁ is₁ → Demands log₂ is₂ → IsPermutation is₁ is₂ → SameDemanded log₁ log₂ t₁ t₂
+
+  -- Demands commute from any two new tables.
+  abbrev pub DemandsCommute : Type 0
+  DemandsCommute = (begin₁ begin₂ : TableModel V) → New bot e begin₁ → New bot e begin₂ → CommuteFrom begin₁ begin₂
 
   -- The same of two tables that begin with the same final rows.
   abbrev pub DemandsCommuteFromStarts : Type 0
   DemandsCommuteFromStarts =
-      (begin₁ begin₂ : TableModel V) → Start bot le e begin₁ → Start bot le e begin₂ → SameFinal begin₁ begin₂ →
-      (log₁ log₂ : Log V) (t₁ t₂ : TableModel V) → Run bot same e begin₁ log₁ t₁ → Run bot same e begin₂ log₂ t₂ →
-      (is₁ is₂ : List ℕ) → Demands log₁ is₁ → Demands log₂ is₂ → IsPermutation is₁ is₂ →
-      ((i : ℕ) (a b : Answer V) → In (event (demand_at i) a) log₁ → In (event (demand_at i) b) log₂ → SameOutcome a b)
-      × SameFinal t₁ t₂
-      × ((j : ℕ) → j < e.size → (t₁.rows j).mark ≡ Final → (t₁.rows j).value ≡ (t₂.rows j).value)
+      (begin₁ begin₂ : TableModel V) → Start bot le e begin₁ → Start bot le e begin₂ → SameFinal begin₁ begin₂ → CommuteFrom begin₁ begin₂
 
   -- The rounds that are told add up to at most the number of final instances times the height and one.
   -- In a session the answered rounds that did not settle it are at most its pending instances times the height.

@@ -3,7 +3,6 @@ pub mod Series
 pub mod Fields
 pub mod Equality
 pub mod Positions
-pub mod PositionAppend
 pub mod Sections
 pub mod Fitting
 pub mod Exact

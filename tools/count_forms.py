@@ -12,13 +12,13 @@ import sys
 
 PATTERNS = {
     '1 enums': r'\benum \w+',
-    '1 numbers and flags': r'-> (u8|\((usize|u8), (usize|u32|Held)\)|Result<\w+, u8>|io::Result<bool>)',
+    '1 numbers and flags': r'-> (u8|\((usize|u8), (usize|u32|Held)\)|Result<.*, u8>|io::Result<bool>)',
     '3 loops that count': r'^\s*(while|loop)\b|^\s*for \w+ in [^{]*\.\.',
-    '3 counters': r'^\s*\w+ \+= (1|\w+\.len\(\));',
-    '4 impls': r'^impl.* (From|TryFrom|PartialEq|Eq|PartialOrd|Ord|Clone|Display)\b.* for ',
+    '3 counters': r'^\s*(\w+\.)*\w+ \+= (1|\w+\.len\(\));',
+    '4 impls': r'^impl.*\b(From|TryFrom|FromStr|PartialEq|Eq|PartialOrd|Ord|Clone|Display)\b.* for ',
     '4 methods': r'fn (equal|equals|below|number|layer|reason|parse_format|is_printable)\(',
     '6 lengths and indices': r'\b(first|len|size|found|count): (usize|u16)|&mut \[usize\]',
-    '7 switches and tables': r'match (step|format|kind|operation)\b|: fn\(|dyn |impl Fn',
+    '7 switches and tables': r'match (self\.)?(step|format|kind|operation)\b|: fn\(|dyn |impl Fn|F: Fn',
 }
 
 
@@ -69,10 +69,12 @@ def main():
     found = {point: list(matches(top, pattern)) for point, pattern in PATTERNS.items()}
     found['5 facts required three times'] = list(shared(top, required))
     found['5 parameters together three times'] = list(shared(top, pairs))
-    found['8 answers'] = [str(p.relative_to(top)) for p in sorted(top.glob('crates/*/proofs/**/Answers.antt'))]
+    found['8 answers, files'] = [str(p.relative_to(top)) for p in sorted(top.glob('crates/*/proofs/**/Answers.antt'))]
+    answers = [line for p in top.glob('crates/*/proofs/**/Answers.antt') for line in p.read_text(encoding='utf8').splitlines()]
+    found['8 answers, lines'] = answers
     for point in sorted(found):
         print(f'{point}: {len(found[point])}')
-        if '--lines' in sys.argv:
+        if '--lines' in sys.argv and point != '8 answers, lines':
             for line in found[point]:
                 print(f'    {line}')
 

@@ -4,7 +4,7 @@ use entries::grammar::load::load_grammar;
 use entry_format::fault::Layer;
 use std::alloc::{AllocError, Global};
 
-// The number, the layer and the place of a refusal.
+// The number, the layer and the place of a refusal. A tuple, since the expected ones are rows of a table.
 pub(crate) type Refusal = (u8, Layer, usize);
 
 // The refusal of a file, or none if it loads.

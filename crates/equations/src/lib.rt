@@ -30,7 +30,7 @@ pub trait System {
         ensures order { (x y : Self.Value) → order x y ↔ Self.Value.Lattice.le x y }
         ensures bottom { least ≡ Self.Value.Lattice.bot };
 
-    // The number of operands of an instance.
+    // The number of operands of an instance. An operand is named by its instance and its index, in the functions below too.
     fn operand_count(&self, instance: usize) -> usize
         ensures { result ≡ (equations self.now).count instance };
 

@@ -43,7 +43,7 @@ limited_at (x ∷ xs) (suc n) zero = sym (ap (λ b. cond b (Some x) None) (lt-lt
 limited_at (x ∷ xs) (suc n) (suc i) = limited_at xs n i ∙ ap (λ b. cond b (slice_get xs i) None) (both_more i n)
 
 -- past the end of a list, or past 4,096, there is nothing
-past : {X : Type 0} (xs : List X) (n i : ℕ) → n ≡ length xs → min n 4096 ≤ i → cond (nat_lt i 4096) (slice_get xs i) None ≡ None
+pub past : {X : Type 0} (xs : List X) (n i : ℕ) → n ≡ length xs → min n 4096 ≤ i → cond (nat_lt i 4096) (slice_get xs i) None ≡ None
 past xs n i e le = sym (limited_at xs 4096 i) ∙ slice_get_past (take 4096 xs) i (omega (arith, length-take 4096 xs))
 
 no_instance : (s : ExampleSystem) (i : ℕ) → size_of s ≤ i → instance_at s i ≡ None

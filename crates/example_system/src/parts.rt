@@ -11,8 +11,8 @@ use std::alloc::{AllocError, Global};
 // Whether something may be empty, and the numbers that it may begin with.
 pub type Value = Pair<bool, NumberSet>;
 
-// The value with the number alone, or with no number where it is past 63.
-pub fn singleton(yes: bool, number: usize) -> Value
+// A value with one number, or with none where the number is past 63.
+pub fn one_number(yes: bool, number: usize) -> Value
     ensures yes { result.first ≡ yes }
     ensures numbers { Members result.second (λ n. n == number && nat_lt n 64) }
 {

@@ -17,7 +17,7 @@ use references::Dangling;
 // The number of instances and of operands at most.
 const LIMIT: usize = 4096;
 
-// The reference of an operand that there is not.
+// The reference of an operand that there is not, by the rules of a system.
 const NO_REFERENCE: usize = 65535;
 
 // The elements that are not left out.

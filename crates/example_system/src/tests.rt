@@ -1,5 +1,5 @@
 // Small systems and their least solutions.
-use crate::parts::{ExampleSystem, Instance, Value, singleton};
+use crate::parts::{ExampleSystem, Instance, Value, one_number};
 use equations::System;
 use equations::work::work;
 use lattices::Lattice;
@@ -31,10 +31,10 @@ fn after_rounds(
 // 0 and 1 read each other, 2 reads itself, 3 reads 0 twice over by 1 and 2.
 fn cycles(heap: Global) -> Result<ExampleSystem, AllocError> {
     let instances = vec![in heap;
-        Instance::joining(heap, singleton(false, 1), &[Ok(1)])?,
-        Instance::joining(heap, singleton(true, 2), &[Ok(0)])?,
-        Instance::joining(heap, singleton(false, 3), &[Ok(2), Ok(0)])?,
-        Instance::joining(heap, singleton(false, 64), &[Ok(1), Ok(2)])?,
+        Instance::joining(heap, one_number(false, 1), &[Ok(1)])?,
+        Instance::joining(heap, one_number(true, 2), &[Ok(0)])?,
+        Instance::joining(heap, one_number(false, 3), &[Ok(2), Ok(0)])?,
+        Instance::joining(heap, one_number(false, 64), &[Ok(1), Ok(2)])?,
     ]?;
     Ok(ExampleSystem { instances })
 }
@@ -43,8 +43,8 @@ fn cycles(heap: Global) -> Result<ExampleSystem, AllocError> {
 fn two_cycle_self_loop_and_diamond(rt: HostRuntime) -> Result<(), Fail> {
     let heap = rt.alloc();
     let system = cycles(heap)?;
-    let both = singleton(true, 1).join(singleton(true, 2));
-    let all = both.join(singleton(false, 3));
+    let both = one_number(true, 1).join(one_number(true, 2));
+    let all = both.join(one_number(false, 3));
     for (instance, expected) in [both, both, all, all].iter().enumerate() {
         assert_eq!(rt; after_rounds(heap, &system, 4, instance)?, Some(*expected));
     }
@@ -55,7 +55,7 @@ fn two_cycle_self_loop_and_diamond(rt: HostRuntime) -> Result<(), Fail> {
 fn dangling_and_missing_operands(rt: HostRuntime) -> Result<(), Fail> {
     let heap = rt.alloc();
     let targets = [Err(Dangling { reference: 7 }), Ok(1)];
-    let instances = vec![in heap; Instance::joining(heap, singleton(true, 5), &targets)?]?;
+    let instances = vec![in heap; Instance::joining(heap, one_number(true, 5), &targets)?]?;
     let system = ExampleSystem { instances };
     assert_eq!(rt; system.operand_count(0), 2);
     assert_eq!(rt; system.operand(0, 0), Err(Dangling { reference: 7 }));
@@ -63,7 +63,7 @@ fn dangling_and_missing_operands(rt: HostRuntime) -> Result<(), Fail> {
     assert_eq!(rt; system.operand(0, 2), Err(Dangling { reference: 65535 }));
     assert_eq!(rt;
         after_rounds(heap, &system, 1, 0)?,
-        Some(singleton(true, 5))
+        Some(one_number(true, 5))
     );
     assert_eq!(rt; work(&system, &[], 0), None);
     Ok(())

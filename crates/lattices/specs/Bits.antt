@@ -1,5 +1,5 @@
 -- The binary digits of a number. Assumes nothing.
-use Rattle.std.specs.Prelude.{◌≡◌, ℕ, zero, suc, ◌+◌, ◌/◌, ◌%◌, ◌^◌, ◌<◌, ◌≤◌, Bool, cond, ◌==◌, nat_eq, refl}
+use Rattle.std.specs.Prelude.{◌≡◌, ℕ, zero, suc, ◌+◌, ◌-◌, ◌/◌, ◌%◌, ◌^◌, ◌<◌, ◌≤◌, Bool, cond, ◌==◌, nat_eq, refl}
 use Rattle.std.proofs.Common.{sym, ap, ◌∙◌, pow-suc, arith}
 use Rattle.std.proofs.Math.Path.{fun_ext}
 use Rattle.std.proofs.Math.Arith.{lt-one}
@@ -13,6 +13,16 @@ bit b n = b / 2 ^ n % 2
 
 pub half_below : (k b : ℕ) → b < 2 ^ suc k → b / 2 < 2 ^ k
 half_below k b below = omega (arith, pow-suc 2 k)
+
+-- The complement in k digits has the other digit at each place.
+pub bit_not : (k b n : ℕ) → b < 2 ^ k → n < k → bit (2 ^ k - 1 - b) n ≡ 1 - bit b n
+bit_not zero b n below within = absurd (omega arith)
+bit_not (suc k) b zero below within = omega (arith, bit_at_lowest (2 ^ suc k - 1 - b), bit_at_lowest b, pow-suc 2 k)
+bit_not (suc k) b (suc n) below within =
+    let half : (2 ^ suc k - 1 - b) / 2 ≡ 2 ^ k - 1 - b / 2 = omega (arith, pow-suc 2 k) in
+    let inside : n < k = omega arith in
+    bit_at-suc (2 ^ suc k - 1 - b) n ∙ ap (λ x. bit x n) half ∙ bit_not k (b / 2) n (half_below k b below) inside
+    ∙ ap (λ x. 1 - x) (sym (bit_at-suc b n))
 
 -- Each digit of a is at most the digit of b at its place.
 abbrev pub Within : ℕ → ℕ → Type 0

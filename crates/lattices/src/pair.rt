@@ -40,6 +40,7 @@ impl<A: Lattice, B: Lattice> Lattice for Pair<A, B> {
         }
     }
 
+    // Not `==`, since the halves are equal as their lattices say.
     fn equal(self, other: Pair<A, B>) -> bool {
         self.first.equal(other.first) && self.second.equal(other.second)
     }

@@ -1,4 +1,4 @@
-// The lines that are written; each ends with a newline.
+// The lines that are written; each ends with a newline. What allocates takes the heap first, as everywhere.
 ghost use Rattle.std.specs.Prelude.{◌≡◌, IfOk, string_bytes};
 ghost use Rattle.entry_reader.specs.Reads.{name_of};
 ghost use Rattle.entries.specs.Models.{grammar_of};
@@ -30,7 +30,7 @@ pub(crate) fn counts_line(heap: Global, file: &str, grammar: &Grammar) -> Result
     )
 }
 
-// A symbol of a grammar whose first symbols are its terminals.
+// A symbol of a grammar whose first symbols are its terminals. Like the next function in its parameters, and another line.
 pub(crate) fn symbol_line(
     heap: Global,
     terminals: usize,

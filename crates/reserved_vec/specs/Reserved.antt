@@ -1,4 +1,4 @@
--- What is known of a vector whose memory is reserved ahead of its use.
+-- What is known of a vector whose memory is reserved ahead of its use. Assumes nothing.
 use Rattle.std.specs.Prelude.{◌≡◌, ℕ, ◌≤◌, [], vec_items, vec_len, vec_capacity, Vec}
 use Rattle.std.specs.declared.alloc.Global.{Global}
 

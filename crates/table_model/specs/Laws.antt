@@ -55,7 +55,7 @@ module _ {V : Type 0} (bot : V) (le : V → V → Type 0) (same : V → V → Bo
       × SameFinal t₁ t₂
       × ((j : ℕ) → j < e.size → (t₁.rows j).mark ≡ Final → (t₁.rows j).value ≡ (t₂.rows j).value)
 
-  -- Two tables get the same demands in any two orders.
+  -- What holds where two tables get the same demands in any two orders.
   abbrev pub CommuteFrom : TableModel V → TableModel V → Type 0
   CommuteFrom begin₁ begin₂ =
       (log₁ log₂ : Log V) (t₁ t₂ : TableModel V) → Run bot same e begin₁ log₁ t₁ → Run bot same e begin₂ log₂ t₂ →

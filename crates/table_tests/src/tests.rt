@@ -1,11 +1,11 @@
 // The table's calls on small systems.
 use crate::largest::{Largest, NoEquations};
-use attribute_table::fault::TableFault;
+use attribute_table::fault::{DanglingOperand, TableFault};
 use attribute_table::row::{Mark, Row};
 use attribute_table::session::{OpenSession, Phase, Rounded, Session, SettledSession};
 use attribute_table::table::Table;
 use equations::System;
-use example_system::parts::{ExampleSystem, Instance, Value, singleton};
+use example_system::parts::{ExampleSystem, Instance, Value, one_number};
 use lattices::Lattice;
 use references::Dangling;
 use std::alloc::{AllocError, Global};
@@ -19,11 +19,11 @@ fn five(heap: Global) -> Result<ExampleSystem, AllocError> {
         Err(Dangling { reference: 6 }),
     ];
     let instances = vec![in heap;
-        Instance::joining(heap, singleton(false, 1), &[Ok(1)])?,
-        Instance::joining(heap, singleton(true, 2), &[Ok(0)])?,
-        Instance::joining(heap, singleton(false, 3), &[Ok(2), Ok(0)])?,
-        Instance::joining(heap, singleton(false, 4), &dangling)?,
-        Instance::joining(heap, singleton(false, 5), &[Ok(3)])?,
+        Instance::joining(heap, one_number(false, 1), &[Ok(1)])?,
+        Instance::joining(heap, one_number(true, 2), &[Ok(0)])?,
+        Instance::joining(heap, one_number(false, 3), &[Ok(2), Ok(0)])?,
+        Instance::joining(heap, one_number(false, 4), &dangling)?,
+        Instance::joining(heap, one_number(false, 5), &[Ok(3)])?,
     ]?;
     Ok(ExampleSystem { instances })
 }
@@ -32,19 +32,18 @@ fn five(heap: Global) -> Result<ExampleSystem, AllocError> {
 fn some_rows(heap: Global, count: usize) -> Result<Vec<Row<Value>>, AllocError> {
     let row = Row {
         mark: Mark::Pending,
-        value: singleton(false, 9),
+        value: one_number(false, 9),
     };
     Ok(vec![in heap; row; count]?)
 }
 
-// The number of a refusal.
+// The number of a refusal, by which the tests expect it.
 fn numbered<T: Drop>(outcome: Result<T, TableFault>) -> Result<(), u8> {
     outcome.map(|_| ()).map_err(TableFault::number)
 }
 
 fn has(rows: &[Row<Value>], instance: usize, mark: Mark, value: Value) -> bool {
-    rows.get(instance)
-        .is_some_and(|row| row.mark == mark && row.value.equal(value))
+    rows.get(instance) == Some(&Row { mark, value })
 }
 
 // A system with its table.
@@ -159,12 +158,12 @@ fn making(rt: HostRuntime) -> Result<(), Fail> {
     let system = five(heap)?;
     let mut short = some_rows(heap, 4)?;
     assert_eq!(rt; numbered(Table::new(&system, &mut short)), Err(10));
-    assert!(rt; has(&short, 0, Mark::Pending, singleton(false, 9)));
+    assert!(rt; has(&short, 0, Mark::Pending, one_number(false, 9)));
     let mut rows = some_rows(heap, 6)?;
     assert_eq!(rt; numbered(Table::new(&system, &mut rows)), Ok(()));
     let bottom = Value::bottom();
     assert!(rt; has(&rows, 4, Mark::Untouched, bottom));
-    assert!(rt; has(&rows, 5, Mark::Pending, singleton(false, 9)));
+    assert!(rt; has(&rows, 5, Mark::Pending, one_number(false, 9)));
     Ok(())
 }
 
@@ -218,16 +217,21 @@ fn too_few_rows(rt: HostRuntime) -> Result<(), Fail> {
 
 #[test]
 fn dangling_names_the_lowest(rt: HostRuntime) -> Result<(), Fail> {
-    let mut lent = lend(rt.alloc(), 10)?;
+    let heap = rt.alloc();
+    let mut lent = lend(heap, 10)?;
     let outcome = lent
         .table
         .demand(&lent.system, &mut lent.rows, &mut lent.work, 4);
-    let Err(TableFault::Dangling(dangling)) = outcome else {
-        return Err(Fail::new("not dangling"));
-    };
-    assert_eq!(rt; dangling.instance, 3);
-    assert_eq!(rt; dangling.operand, 1);
-    assert_eq!(rt; dangling.dangling.reference, 7);
+    let fault = TableFault::Dangling(DanglingOperand {
+        instance: 3,
+        operand: 1,
+        dangling: Dangling { reference: 7 },
+    });
+    assert_eq!(rt; outcome, Err(fault));
+    assert_eq!(rt;
+        format!(in heap; "{fault}")?.as_str(),
+        "operand 1 of instance 3 dangles at reference 7"
+    );
     Ok(())
 }
 
@@ -238,7 +242,7 @@ fn session_of_a_cycle(rt: HostRuntime) -> Result<(), Fail> {
     let (changed, session) = lent.settle(session)?;
     assert_eq!(rt; changed, [2, 1]);
     assert_eq!(rt; lent.close(session), Ok((2, 3)));
-    let both = singleton(true, 1).join(singleton(true, 2));
+    let both = one_number(true, 1).join(one_number(true, 2));
     assert!(rt; has(&lent.rows, 0, Mark::Final, both));
     assert!(rt; has(&lent.rows, 1, Mark::Final, both));
     Ok(())
@@ -253,9 +257,9 @@ fn interrupted_and_given_up(rt: HostRuntime) -> Result<(), Fail> {
     assert_eq!(rt; lent.read(0), Err(16));
     assert_eq!(rt; lent.give_up(session), 3);
     assert_eq!(rt; lent.demand(2), Ok(()));
-    let three = singleton(true, 1)
-        .join(singleton(true, 2))
-        .join(singleton(true, 3));
+    let three = one_number(true, 1)
+        .join(one_number(true, 2))
+        .join(one_number(true, 3));
     assert!(rt; has(&lent.rows, 2, Mark::Final, three));
     Ok(())
 }
@@ -302,9 +306,7 @@ fn demands_in_two_orders(rt: HostRuntime) -> Result<(), Fail> {
     let mut other = lend(heap, 10)?;
     assert_eq!(rt; other.demand(2), Ok(()));
     assert_eq!(rt; other.demand(1), Ok(()));
-    for (i, row) in lent.rows.iter().enumerate() {
-        assert!(rt; has(&other.rows, i, row.mark, row.value));
-    }
+    assert_eq!(rt; lent.rows, other.rows);
     Ok(())
 }
 

@@ -2,7 +2,7 @@
 ghost use Rattle.std.specs.Prelude.{◌≡◌, ℕ, ◌↔◌, ◌<◌, ◌≤◌, length, slice_index, IsTrue, EachIndex};
 ghost use Rattle.equations.specs.Reach.{Uses};
 ghost use Rattle.equations.specs.Rounds.{members};
-ghost use Rattle.reach_search.specs.Queued.{Marked, is_marked, HasPlace};
+ghost use Rattle.reach_search.specs.Marks.{Marked, is_marked, HasPlace};
 
 use equations::System;
 

@@ -3,7 +3,7 @@
 
 ghost use Rattle.std.specs.Prelude.{◌≡◌, ◌<◌, ◌≤◌, length};
 ghost use Rattle.reach_search.specs.Dangles.{TellsLowest};
-ghost use Rattle.reach_search.specs.Queued.{Marked};
+ghost use Rattle.reach_search.specs.Marks.{Marked};
 ghost use Rattle.reach_search.specs.Searched.{MarksReach, Searched};
 
 mod found;

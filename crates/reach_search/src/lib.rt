@@ -8,7 +8,8 @@ ghost use Rattle.reach_search.specs.Searched.{MarksReach, Searched};
 
 mod found;
 
-use crate::found::{Found, is_marked};
+use crate::found::Found;
+pub use crate::found::is_marked;
 use equations::System;
 use table_model::fault::{DanglingOperand, TableFault};
 

@@ -11,6 +11,7 @@ use equations::System;
 use equations::family::Family;
 use equations::work::equation_value;
 use lattices::Lattice;
+use reach_search::is_marked;
 use table_model::row::{Mark, Row};
 
 // The row of an instance that nobody asked for.
@@ -60,7 +61,7 @@ pub(crate) fn open_rows<V: Lattice>(rows: &mut [Row<V>], marks: &[usize])
     requires { length rows.old ≤ length marks.now }
     ensures { EachRow V.Lattice.bot (length rows.old) (λ j. opened_row V.Lattice.bot (slice_index marks.now j == 1)) rows.old rows.new }
 {
-    replace_each(rows, |i, row| opened(row, marks[i] == 1));
+    replace_each(rows, |i, row| opened(row, is_marked(marks[i])));
 }
 
 // Replaces each pending row by what `by` makes of it. Answers how many there were.

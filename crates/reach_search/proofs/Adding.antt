@@ -5,7 +5,7 @@ use Rattle.std.proofs.lemmas.List.{length-set, get_or-set_same, get_or-set_other
 use Rattle.std.proofs.lemmas.Bool.{cases_lt, cases_eq, eq-eqb, ne_eqb}
 use Rattle.equations.specs.Rounds.{members}
 use Rattle.reach_search.specs.declared.found.Found.{Found}
-use Rattle.reach_search.specs.Queued.{Marked, is_marked, HasPlace}
+use Rattle.reach_search.specs.Marks.{Marked, is_marked, HasPlace}
 use Rattle.reach_search.specs.Additions.{Adds}
 use Rattle.reach_search.proofs.Members.{members_none, members_most, members_room, members_more}
 

@@ -8,7 +8,7 @@ use Rattle.equations.proofs.Paths.{reach_within}
 use Rattle.table_model.specs.declared.fault.DanglingOperand.{DanglingOperand}
 use Rattle.table_model.specs.declared.fault.TableFault.{TableFault}
 use Rattle.table_model.specs.Calls.{LowestDangling}
-use Rattle.reach_search.specs.Queued.{Marked}
+use Rattle.reach_search.specs.Marks.{Marked}
 use Rattle.reach_search.specs.Searched.{MarksReach, TellsWhole, Searched}
 use Rattle.reach_search.specs.Dangles.{NoneDangles, LowestOf}
 

@@ -11,7 +11,7 @@ use Rattle.equations.proofs.Paths.{reach_trans, reach_uses}
 use Rattle.table_model.proofs.Lowest.{never}
 use Rattle.reach_search.specs.declared.found.Found.{Found}
 use Rattle.reach_search.specs.Searched.{MarksReach}
-use Rattle.reach_search.specs.Queued.{Marked}
+use Rattle.reach_search.specs.Marks.{Marked}
 use Rattle.reach_search.specs.Additions.{queued, Begins, SameLists, Adds, Visits}
 use Rattle.reach_search.proofs.Adding.{found_most, adds_none, adds_both}
 

@@ -2,7 +2,7 @@
 use Rattle.std.specs.Prelude.{◌≡◌, ℕ, ◌+◌, ◌<◌, ◌≤◌, ◌⊎◌, List, length, Option, slice_index, MatchOption}
 use Rattle.std.specs.Borrow.{MutBor}
 use Rattle.reach_search.specs.declared.found.Found.{Found}
-use Rattle.reach_search.specs.Queued.{Marked}
+use Rattle.reach_search.specs.Marks.{Marked}
 
 -- Place p of the queue.
 abbrev pub queued : Found → ℕ → ℕ

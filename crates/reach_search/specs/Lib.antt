@@ -1,4 +1,4 @@
 pub mod Searched
-pub mod Queued
+pub mod Marks
 pub mod Additions
 pub mod Dangles

@@ -1,13 +1,14 @@
 // The instances that a search has found, over a lent work list.
-ghost use Rattle.std.specs.Prelude.{◌≡◌, ℕ, ◌↔◌, ◌<◌, ◌≤◌, length, slice_index, IsTrue, EachIndex};
+ghost use Rattle.std.specs.Prelude.{◌≡◌, ℕ, ◌<◌, ◌≤◌, ◌==◌, length, slice_index, EachIndex};
 ghost use Rattle.equations.specs.Reach.{Uses};
 ghost use Rattle.equations.specs.Rounds.{members};
-ghost use Rattle.reach_search.specs.Queued.{Marked, is_marked, HasPlace};
+ghost use Rattle.reach_search.specs.Marks.{Marked, is_marked, HasPlace};
 
 use equations::System;
 
 // A mark for each instance, and the queue of those found, in the order in which they were.
-// A mark is a number, 1 for an instance that is found and else 0: the caller lends one list of numbers for marks and queue.
+// The caller lends one list of numbers for both. So a mark is a number, 1 for an instance that is found and else 0,
+// and the queue is a lent stretch with a count beside it, and not a Vec.
 #[derive(Drop)]
 pub(crate) struct Found<'m, 'q> {
     marks: &'m mut [usize],
@@ -82,8 +83,8 @@ impl<'m, 'q> Found<'m, 'q> {
 }
 
 // Whether a mark is that of an instance found.
-pub(crate) fn is_marked(mark: usize) -> bool
-    ensures { IsTrue result ↔ mark ≡ 1 }
+pub fn is_marked(mark: usize) -> bool
+    ensures { result ≡ (mark == 1) }
 {
     mark == 1
 }

@@ -3,12 +3,13 @@
 
 ghost use Rattle.std.specs.Prelude.{◌≡◌, ◌<◌, ◌≤◌, length};
 ghost use Rattle.reach_search.specs.Dangles.{TellsLowest};
-ghost use Rattle.reach_search.specs.Queued.{Marked};
+ghost use Rattle.reach_search.specs.Marks.{Marked};
 ghost use Rattle.reach_search.specs.Searched.{MarksReach, Searched};
 
 mod found;
 
-use crate::found::{Found, is_marked};
+use crate::found::Found;
+pub use crate::found::is_marked;
 use equations::System;
 use table_model::fault::{DanglingOperand, TableFault};
 

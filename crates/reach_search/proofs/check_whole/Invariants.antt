@@ -1,5 +1,5 @@
 -- None of the marked instances before the turn's has a dangling operand.
-use Rattle.reach_search.specs.Queued.{Marked}
+use Rattle.reach_search.specs.Marks.{Marked}
 use Rattle.reach_search.proofs.Lowest.{NoneOfFirst}
 use Rattle.reach_search.proofs.check_whole.Given as goal
 

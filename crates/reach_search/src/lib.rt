@@ -32,7 +32,7 @@ pub fn reach<S: System>(system: &S, work: &mut [usize], instance: usize) -> Resu
 }
 
 // Marks the instances in reach, by visiting each one found. That there is a mark for each instance is a fact of the lent list
-// and the system together, which only `reach` knows both: so it is asked for here.
+// and the system together, so it is asked for here and below.
 fn mark_reach<S: System>(system: &S, marks: &mut [usize], queue: &mut [usize], instance: usize)
     requires size { length marks.old ≡ (S.System.equations system.now).size }
     requires room { (S.System.equations system.now).size ≤ length queue.old }

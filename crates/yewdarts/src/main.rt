@@ -11,7 +11,7 @@ use report::reports::text_report;
 use std::process::ExitCode;
 use std::{env, fs, io};
 
-// Prints reports in one format.
+// Prints reports in one format. There are two, with a line for each where they are told apart.
 #[derive(Clone, Copy)]
 struct Reporter<'a> {
     rt: &'a HostRuntime,

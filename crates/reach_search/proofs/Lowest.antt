@@ -1,15 +1,13 @@
 -- The lowest dangling operand, by instances and operands in ascending number. Assumes nothing.
-use Rattle.std.proofs.lemmas.List.{get_or_append_left}
-use Rattle.std.proofs.Common.{◌≡◌, ℕ, ◌*◌, ◌<◌, ◌≤◌, List, length, ◌++◌, Err, Result, ⊎_elim, arith}
+use Rattle.std.proofs.Common.{◌≡◌, ℕ, ◌<◌, List, length, Err, ⊎_elim, arith}
 use Rattle.references.specs.declared.Dangling.{Dangling}
 use Rattle.equations.specs.Equations.{Equations, Lawful}
 use Rattle.equations.specs.Reach.{Reach, Whole}
 use Rattle.equations.proofs.Paths.{reach_within}
 use Rattle.table_model.specs.declared.fault.DanglingOperand.{DanglingOperand}
-use Rattle.table_model.specs.declared.fault.TableFault.{TableFault}
 use Rattle.table_model.specs.Calls.{LowestDangling}
 use Rattle.reach_search.specs.Marks.{Marked}
-use Rattle.reach_search.specs.Searched.{MarksReach, TellsWhole, Searched}
+use Rattle.reach_search.specs.Searched.{MarksReach}
 use Rattle.reach_search.specs.Dangles.{NoneDangles, LowestOf}
 
 module _ {V : Type 0} (e : Equations V) where
@@ -42,14 +40,3 @@ module _ {V : Type 0} (e : Equations V) where
           dangles = f.dangles;
           lowest = λ j o x r. f.lowest j o x (marked j r);
         }
-
-  -- What the search answers where it is not refused: the work list has the marks, then the queue.
-  pub searched : (i : ℕ) (before marks queue : List ℕ) (r : Result Unit TableFault) → 2 * e.size ≤ length before → i < e.size → length marks ≡ e.size → MarksReach e i marks → TellsWhole e i r → length (marks ++ queue) ≡ length before → Searched e i before (marks ++ queue) r
-  searched i before marks queue r room l size reach tells same =
-      record {
-        short = λ s. absurd (omega arith);
-        none = λ _ s. absurd (omega arith);
-        marks = λ _ _ j m. let within : j < length marks = omega arith in rw get_or_append_left (reach j m);
-        tells = λ _ _. tells;
-        length = same;
-      }

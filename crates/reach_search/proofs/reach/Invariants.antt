@@ -1,7 +1,7 @@
 -- The search from the instance.
 use Rattle.std.proofs.Common.{◌-◌, length}
 use Rattle.reach_search.proofs.Searching.{Searching}
-use Rattle.reach_search.proofs.mark_reach.Given as goal
+use Rattle.reach_search.proofs.reach.Given as goal
 
 abbrev pub invariant-loop-next : goal.invariant-loop-next
 invariant-loop-next g l =

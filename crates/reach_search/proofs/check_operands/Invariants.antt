@@ -1,6 +1,0 @@
--- None of the operands before the turn's dangles.
-use Rattle.reach_search.proofs.Lowest.{NoneBelow}
-use Rattle.reach_search.proofs.check_operands.Given as goal
-
-abbrev pub invariant-loop-operand : goal.invariant-loop-operand
-invariant-loop-operand g l = NoneBelow (g.S.System.equations l.system) l.instance l.operand-counter

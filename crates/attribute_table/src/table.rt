@@ -109,8 +109,8 @@ impl Table {
     }
 
     // Gives each pending row its equation's value.
-    // Matches the record itself and not by `Phase::fits`, since it needs the rounds there. Tests the length by an `if`,
-    // since a refusal hands the session back.
+    // Matches the record, and does not call `Phase::fits`, since it needs the rounds in the record. Tests the length by an
+    // `if`, since a refusal hands the session back.
     pub fn round<S: System>(
         &mut self,
         system: &S,

@@ -18,6 +18,16 @@ module _ {V : Type 0} (bot : V) where
       ext_get_or (row Untouched bot) (drop n after) (drop n rows) (length-drop n after ∙ ap (λ k. k - n) len ∙ sym (length-drop n rows))
       (λ i _. get_or-drop n after i (row Untouched bot) ∙ past (n + i) (omega arith) ∙ sym (get_or-drop n rows i (row Untouched bot)))
 
+-- Too little is lent.
+pub not_lent : {V : Type 0} {bot : V} {same : V → V → Bool} {e : Equations V} {enough : Type 0} {short : Answer V} {s : State} {rows : List (Row V)} {c : Call} →
+    (enough → ⊥) → Called bot same e enough short s rows c short s rows
+not_lent not =
+    record {
+      too_short = λ _. (refl, refl, refl);
+      steps = λ lent. absurd (not lent);
+      refusal = λ _ _. (refl, refl);
+    }
+
 module _ {V : Type 0} {bot : V} {same : V → V → Bool} {e : Equations V} {enough : Type 0} {short : Answer V} {s : State} {rows : List (Row V)} {c : Call} {a : Answer V} (lent : enough) where
   pub kept : Step bot same e s (rows_of bot rows) c a (table s (rows_of bot rows)) → Called bot same e enough short s rows c a s rows
   kept step =

@@ -1,5 +1,5 @@
 -- Changes of each row, and of the first rows of a list. Assumes nothing.
-use Rattle.std.proofs.Common.{◌≡◌, ℕ, zero, suc, ◌-◌, ◌≤◌, cond, count_by, List, length, take, drop, ◌++◌, refl, ap, ◌∙◌, subst, add-one, arith}
+use Rattle.std.proofs.Common.{◌≡◌, ℕ, zero, suc, ◌-◌, ◌≤◌, cond, List, length, take, drop, ◌++◌, refl, ap, ◌∙◌, subst, add-one, arith}
 use Rattle.std.proofs.lemmas.List.{length-take, get_or-take, get_or_append_left, get_or-append_right, get_or-drop, length-append, length-drop}
 use Rattle.std.proofs.lemmas.List.Sums.{sum_by_more}
 use Rattle.equations.specs.Rounds.{members}
@@ -7,7 +7,7 @@ use Rattle.table_model.proofs.Lowest.{never}
 use Rattle.table_model.specs.Rows.{row, is_pending, pending}
 use Rattle.table_model.specs.declared.row.Mark.TheVariants.{Untouched, Pending, Final}
 use Rattle.table_model.specs.declared.row.Row.{Row}
-use Rattle.attribute_table.specs.Effects.{EachRow, EachReplaced, PendingReplaced, closed_as, closed_row, released_as, released_row}
+use Rattle.attribute_table.specs.Effects.{EachRow, EachReplaced, PendingReplaced, closed_as, closed_row, released_as, released_row, pending_rows}
 use Rattle.attribute_table.specs.Lent.{rows_of}
 
 module _ {V : Type 0} (bot : V) where
@@ -35,7 +35,7 @@ module _ {V : Type 0} (bot : V) where
       | Final ↦ λ q. is.kept (λ p. never (cc))
     ] refl
 
-  counted : (rows : List (Row V)) (n : ℕ) → n ≤ length rows → count_by (λ r. is_pending r.mark) (take n rows) ≡ members (pending (rows_of bot rows)) n
+  counted : (rows : List (Row V)) (n : ℕ) → n ≤ length rows → pending_rows (take n rows) ≡ members (pending (rows_of bot rows)) n
   counted rows zero l = refl
   counted rows (suc n) l =
       let more = sum_by_more (λ (r : Row V). cond (is_pending r.mark) 1 0) rows n (row Untouched bot) (omega arith) in
@@ -55,5 +55,5 @@ module _ {V : Type 0} (bot : V) where
           length = length-append cut (drop n rows) ∙ omega (arith, length-drop n rows);
         })
 
-    pub counts_lent : {count : ℕ} → count ≡ count_by (λ r. is_pending r.mark) (take n rows) → count ≡ members (pending (rows_of bot rows)) m
+    pub counts_lent : {count : ℕ} → count ≡ pending_rows (take n rows) → count ≡ members (pending (rows_of bot rows)) m
     counts_lent counts = counts ∙ counted rows n within ∙ ap (members (pending (rows_of bot rows))) size

@@ -21,9 +21,9 @@ use Rattle.table_model.specs.declared.row.Mark.{Mark}
 use Rattle.table_model.specs.declared.row.Mark.TheVariants.{Untouched, Pending, Final}
 use Rattle.table_model.specs.declared.row.Row.{Row}
 use Rattle.attribute_table.specs.Effects.{opened_row, closed_row, released_row, EachRow, Evaluated, Iterated}
-use Rattle.attribute_table.specs.Lent.{rows_of, EnoughRows, Called, Made}
+use Rattle.attribute_table.specs.Lent.{rows_of, EnoughRows, EnoughPlaces, NotAsked, too_short, not_idle, no_instance, Called, Made}
 use Rattle.attribute_table.specs.Phases.{SessionPhase, iterating, settled, fits_in, give_up_in}
-use Rattle.attribute_table.proofs.Calls.{drop_same, kept, altered}
+use Rattle.attribute_table.proofs.Calls.{drop_same, not_lent, kept, altered}
 use Rattle.attribute_table.proofs.RowsAfter.{rows_opened, closed_rows, released_rows, rounded_rows, evaluated_past, iterated_past}
 use Rattle.attribute_table.proofs.Sweeps.{pending_same}
 
@@ -40,10 +40,7 @@ module _ {V : Type 0} {e : Equations V} {i : ℕ} where
   told_whole (whole w) u q = w
   told_whole (dangling l) u q = absurd (never (cc))
 
--- A state that is not idle, and a mark that is not final.
-pub busy : (s : State) → ((x : Evaluation) × (s ≡ Iterating x)) ⊎ ((x : Evaluation) × (s ≡ Settled x)) → s ≡ Idle → ⊥
-busy s is idle = ⊎_elim (λ p. let q = p.1 in never (cc)) (λ p. let q = p.1 in never (cc)) is
-
+-- A mark that is not final.
 pub not_final : (m : Mark) → (m ≡ Untouched) ⊎ (m ≡ Pending) → m ≡ Final → ⊥
 not_final m is final = ⊎_elim (λ p. never (cc)) (λ p. never (cc)) is
 
@@ -59,6 +56,16 @@ another_open = another Iterating (λ x y p. cc)
 
 pub another_settled : (s : State) (x : Evaluation) (i : ℕ) → s ≡ Settled x → (x.instance ≡ i → ⊥) → (k : ℕ) → s ≡ Settled (evaluation i k) → ⊥
 another_settled = another Settled (λ x y p. cc)
+
+-- An open or a demand at i that cannot go on is refused.
+module _ {V : Type 0} {bot : V} {same : V → V → Bool} {e : Equations V} {s : State} {rows : List (Row V)} {c : Call} where
+  pub not_asked : {work : List ℕ} {i : ℕ} →
+      ((s ≡ Idle → ⊥) → Step bot same e s (rows_of bot rows) c (refused fault.NotIdle) (table s (rows_of bot rows))) →
+      (s ≡ Idle → e.size ≤ i → Step bot same e s (rows_of bot rows) c (refused fault.NoInstance) (table s (rows_of bot rows))) →
+      (f : TableFault) → NotAsked e s rows work i f → Called bot same e (EnoughPlaces e rows work) (refused fault.TooShort) s rows c (refused f) s rows
+  not_asked busy none f (too_short not) = not_lent not
+  not_asked busy none f (not_idle lent not) = kept lent (busy not)
+  not_asked busy none f (no_instance lent idle past) = kept lent (none idle past)
 
 -- The row of number i is r.
 module _ {V : Type 0} (bot : V) (rows : List (Row V)) (i : ℕ) (r : Row V) (is : r ≡ rows_of bot rows i) where

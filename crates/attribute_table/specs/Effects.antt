@@ -1,9 +1,9 @@
 -- What calls do to rows that are lent as a list. Assumes nothing.
-use Rattle.std.specs.Prelude.{◌≡◌, ℕ, ◌<◌, ◌≤◌, Bool, true, false, cond, List, length, ◌≢◌}
+use Rattle.std.specs.Prelude.{◌≡◌, ℕ, ◌<◌, ◌≤◌, Bool, true, false, cond, count_by, List, length, ◌≢◌}
 use Rattle.equations.specs.Equations.{Equations}
 use Rattle.equations.specs.Rounds.{turn, changed, swept, changes, rounds, round_changes}
 use Rattle.table_model.specs.Calls.{counted}
-use Rattle.table_model.specs.Rows.{row, pending, values}
+use Rattle.table_model.specs.Rows.{row, is_pending, pending, values}
 use Rattle.table_model.specs.declared.row.Mark.{Mark}
 use Rattle.table_model.specs.declared.row.Mark.TheVariants.{Untouched, Pending, Final}
 use Rattle.table_model.specs.declared.row.Row.{Row}
@@ -13,6 +13,10 @@ use Rattle.attribute_table.specs.Lent.{rows_of}
 pub record PendingReplaced {V : Type 0} (R : Row V → Row V → Type 0) (before after : Row V) : Type 0 where
   pub pending : before.mark ≡ Pending → R before after
   pub kept : (before.mark ≢ Pending) → after ≡ before
+
+-- How many rows of a list are pending.
+abbrev pub pending_rows : {V : Type 0} → List (Row V) → ℕ
+pending_rows rows = count_by (λ r. is_pending r.mark) rows
 
 module _ {V : Type 0} (bot : V) where
   -- The row with mark m when a session opens, whether its instance is in reach or not.

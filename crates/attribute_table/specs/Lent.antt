@@ -1,5 +1,5 @@
 -- A table whose rows are lent as a list, and what each of its calls comes to. Assumes nothing.
-use Rattle.std.specs.Prelude.{◌≡◌, ℕ, ◌*◌, ◌<◌, ◌≤◌, Bool, List, length, drop, Ok, Err, Result, slice_index_or}
+use Rattle.std.specs.Prelude.{◌≡◌, ℕ, ◌*◌, ◌<◌, ◌≤◌, ◌≢◌, Bool, List, length, drop, Ok, Err, Result, slice_index_or}
 use Rattle.equations.specs.Equations.{Equations}
 use Rattle.table_model.specs.Calls.{Call, Answer, refused}
 use Rattle.table_model.specs.Rows.{Rows, row}
@@ -8,6 +8,7 @@ use Rattle.table_model.specs.Steps.{Step, table}
 use Rattle.table_model.specs.declared.fault.TableFault.{TableFault}
 use Rattle.table_model.specs.declared.fault.TableFault.TheVariants as fault
 use Rattle.table_model.specs.declared.record.State.{State}
+use Rattle.table_model.specs.declared.record.State.TheVariants.{Idle}
 use Rattle.table_model.specs.declared.row.Mark.TheVariants.{Untouched}
 use Rattle.table_model.specs.declared.row.Row.{Row}
 use Rattle.attribute_table.specs.declared.table.Table.{Table}
@@ -23,6 +24,17 @@ EnoughRows e rows = e.size ≤ length rows
 -- There are also two places in the work list for each instance.
 abbrev pub EnoughPlaces : {V : Type 0} → Equations V → List (Row V) → List ℕ → Type 0
 EnoughPlaces e rows work = EnoughRows e rows × (2 * e.size ≤ length work)
+
+module _ {V : Type 0} (e : Equations V) (s : State) (rows : List (Row V)) (work : List ℕ) (i : ℕ) where
+  -- An open or a demand at i, with the record s, can go on: enough is lent, the table is idle, and there is such an instance.
+  abbrev pub Asked : Type 0
+  Asked = EnoughPlaces e rows work × (s ≡ Idle) × (i < e.size)
+
+  -- It cannot. The refusals are in this order.
+  pub data NotAsked : TableFault → Type 0 where
+    too_short : (EnoughPlaces e rows work → ⊥) → NotAsked fault.TooShort
+    not_idle : EnoughPlaces e rows work → (s ≢ Idle) → NotAsked fault.NotIdle
+    no_instance : EnoughPlaces e rows work → s ≡ Idle → e.size ≤ i → NotAsked fault.NoInstance
 
 module _ {V : Type 0} (bot : V) (same : V → V → Bool) (e : Equations V) where
   -- The call is a step of the table, with as many rows after as before, and those past the last instance as they were.

@@ -1,10 +1,10 @@
 // What calls do to the rows.
-ghost use Rattle.std.specs.Prelude.{◌≡◌, ℕ, ◌<◌, ◌≤◌, length, count_by, ◌==◌, slice_index};
+ghost use Rattle.std.specs.Prelude.{◌≡◌, ℕ, ◌<◌, ◌≤◌, length, ◌==◌, slice_index};
 ghost use Rattle.equations.specs.Equations.{Lawful};
-ghost use Rattle.table_model.specs.Rows.{row, is_pending, values};
+ghost use Rattle.table_model.specs.Rows.{row, values};
 ghost use Rattle.table_model.specs.declared.row.Mark.TheVariants.{Untouched};
 ghost use Rattle.table_model.specs.declared.row.Row.{Row};
-ghost use Rattle.attribute_table.specs.Effects.{opened_row, closed_row, released_row, EachRow, EachReplaced, PendingReplaced, EvaluatedAt, Evaluated, Iterated, PendingAtBottom};
+ghost use Rattle.attribute_table.specs.Effects.{opened_row, closed_row, released_row, EachRow, EachReplaced, PendingReplaced, EvaluatedAt, Evaluated, Iterated, PendingAtBottom, pending_rows};
 ghost use Rattle.attribute_table.specs.Lent.{rows_of};
 
 use equations::System;
@@ -68,7 +68,7 @@ pub(crate) fn open_rows<V: Lattice>(rows: &mut [Row<V>], marks: &[usize])
 fn replace_pending<V: Lattice, F: Fn(Row<V>) -> Row<V>>(rows: &mut [Row<V>], by: F) -> usize
     requires { (r : Row V) → F.pre by r }
     ensures rows { EachReplaced V.Lattice.bot (length rows.old) (λ _. PendingReplaced (F.post by)) rows.old rows.new }
-    ensures count { result ≡ count_by (λ r. is_pending r.mark) rows.old }
+    ensures count { result ≡ pending_rows rows.old }
 {
     let count = rows.iter().filter(|row| row.mark == Mark::Pending).count();
     replace_each(rows, |_, row| match row.mark {
@@ -81,7 +81,7 @@ fn replace_pending<V: Lattice, F: Fn(Row<V>) -> Row<V>>(rows: &mut [Row<V>], by:
 // Makes the pending rows final. Answers how many there were.
 pub(crate) fn make_final<V: Lattice>(rows: &mut [Row<V>]) -> usize
     ensures rows { EachRow V.Lattice.bot (length rows.old) (λ _. closed_row V.Lattice.bot) rows.old rows.new }
-    ensures count { result ≡ count_by (λ r. is_pending r.mark) rows.old }
+    ensures count { result ≡ pending_rows rows.old }
 {
     replace_pending(
         rows,
@@ -95,7 +95,7 @@ pub(crate) fn make_final<V: Lattice>(rows: &mut [Row<V>]) -> usize
 // Returns the pending rows to untouched. Answers how many there were.
 pub(crate) fn release<V: Lattice>(rows: &mut [Row<V>]) -> usize
     ensures rows { EachRow V.Lattice.bot (length rows.old) (λ _. released_row V.Lattice.bot) rows.old rows.new }
-    ensures count { result ≡ count_by (λ r. is_pending r.mark) rows.old }
+    ensures count { result ≡ pending_rows rows.old }
 {
     replace_pending(rows, |_| untouched())
 }
@@ -132,6 +132,7 @@ fn evaluate<S: System>(system: &S, rows: &mut [Row<S::Value>], instance: usize) 
 }
 
 // Gives each pending row its equation's value, in ascending number. Answers how many values changed.
+// A loop with a counter: after a closure that changes the rows nothing would be known of them.
 pub(crate) fn evaluate_all<S: System>(system: &S, rows: &mut [Row<S::Value>]) -> usize
     ensures { Evaluated S.Value.Lattice.bot S.Value.Lattice.same (S.System.equations system.now) (S.System.equations system.now).size rows.old rows.new result }
 {

@@ -2,9 +2,9 @@
 ghost use Rattle.std.specs.Prelude.{◌≡◌, ◌<◌, ◌≤◌, length, IfOk, IfErr};
 ghost use Rattle.table_model.specs.Calls.{open_at, round_of, close_of, demand_at, read_at, refused, gave_up};
 ghost use Rattle.table_model.specs.Laws.{TableLaws};
-ghost use Rattle.table_model.specs.declared.fault.TableFault.TheVariants.{TooShort};
+ghost use Rattle.table_model.specs.declared.fault.TableFault.TheVariants.{TooShort, NoInstance};
 ghost use Rattle.attribute_table.specs.Answers.{open_answer, OpensAt, round_answer, RoundsAt, close_answer, ClosesAt, demand_answer, read_answer};
-ghost use Rattle.attribute_table.specs.Lent.{EnoughRows, EnoughPlaces, Called, Made};
+ghost use Rattle.attribute_table.specs.Lent.{rows_of, EnoughRows, EnoughPlaces, Asked, NotAsked, Called, Made};
 ghost use Rattle.attribute_table.specs.Phases.{give_up_in};
 
 use crate::rows;
@@ -17,7 +17,8 @@ use table_model::record::{Evaluation, State};
 use table_model::row::{Mark, Row};
 
 // The record of a table. The caller owns the rows and the work list and lends them at each call, with the system:
-// so each call has them as parameters.
+// so each call has them as parameters. A struct of system and rows was tried: after a method that gives up nothing was
+// known of the rows.
 #[derive(Drop)]
 pub struct Table {
     state: State,
@@ -32,6 +33,18 @@ fn check_length<T>(lent: &[T], least: usize) -> Result<(), TableFault>
         return Err(TableFault::TooShort);
     }
     Ok(())
+}
+
+// The row of an instance, one of the first `size`.
+fn row_of<V: Lattice>(rows: &[Row<V>], size: usize, instance: usize) -> Result<Row<V>, TableFault>
+    requires { size ≤ length rows.now }
+    ensures ok { IfOk result (λ row. (instance < size) × (row ≡ rows_of V.Lattice.bot rows.now instance)) }
+    ensures err { IfErr result (λ fault. (fault ≡ NoInstance) × (size ≤ instance)) }
+{
+    rows[..size]
+        .get(instance)
+        .copied()
+        .ok_or(TableFault::NoInstance)
 }
 
 impl Table {
@@ -49,6 +62,26 @@ impl Table {
         Ok(Table { state: State::Idle })
     }
 
+    // The row of the instance that an open or a demand asks for, where enough is lent and the table is idle.
+    fn asked_row<S: System>(
+        &self,
+        system: &S,
+        rows: &[Row<S::Value>],
+        work: &[usize],
+        instance: usize,
+    ) -> Result<Row<S::Value>, TableFault>
+        ensures ok { IfOk result (λ row. Asked (S.System.equations system.now) self.now.state rows.now work.now instance × (row ≡ rows_of S.Value.Lattice.bot rows.now instance)) }
+        ensures err { IfErr result (NotAsked (S.System.equations system.now) self.now.state rows.now work.now instance) }
+    {
+        let size = system.size();
+        check_length(rows, size)?;
+        check_length(work, 2 * size)?;
+        let State::Idle = self.state else {
+            return Err(TableFault::NotIdle);
+        };
+        row_of(rows, size, instance)
+    }
+
     // Opens a session at an instance: makes pending what is in its reach and not final.
     pub fn open<S: System>(
         &mut self,
@@ -62,30 +95,22 @@ impl Table {
         ensures work { length work.new ≡ length work.old }
     {
         let size = system.size();
-        check_length(rows, size)?;
-        check_length(work, 2 * size)?;
-        match self.state {
-            State::Idle => {
-                if instance >= size {
-                    return Err(TableFault::NoInstance);
-                }
-                let row = rows[instance];
-                if row.mark == Mark::Final {
-                    return Err(TableFault::AlreadyFinal);
-                }
-                reach(system, work, instance)?;
-                rows::open_rows(&mut rows[..size], work);
-                self.state = State::Iterating(Evaluation {
-                    instance,
-                    rounds: 0,
-                });
-                Ok(Session::new(instance))
-            }
-            State::Iterating(_) | State::Settled(_) => Err(TableFault::NotIdle),
+        let asked = self.asked_row(system, rows, work, instance)?;
+        if asked.mark == Mark::Final {
+            return Err(TableFault::AlreadyFinal);
         }
+        reach(system, work, instance)?;
+        rows::open_rows(&mut rows[..size], work);
+        self.state = State::Iterating(Evaluation {
+            instance,
+            rounds: 0,
+        });
+        Ok(Session::new(instance))
     }
 
     // Gives each pending row its equation's value.
+    // Matches the record, and does not call `Phase::fits`, since it needs the rounds in the record. Tests the length by an
+    // `if`, since a refusal hands the session back.
     pub fn round<S: System>(
         &mut self,
         system: &S,
@@ -117,6 +142,7 @@ impl Table {
     }
 
     // Makes the session's pending rows final.
+    // Matches the record and tests the length as `round` does, for the same reasons.
     pub fn close<S: System>(
         &mut self,
         system: &S,
@@ -150,6 +176,7 @@ impl Table {
     }
 
     // Ends a session and releases its pending rows. Answers how many: 0 if the session does not fit or the rows are too short.
+    // Tests the length by an `if`, since it answers 0 and refuses nothing.
     pub fn give_up<S: System, P: Phase>(
         &mut self,
         system: &S,
@@ -179,15 +206,7 @@ impl Table {
         ensures work { length work.new ≡ length work.old }
     {
         let size = system.size();
-        check_length(rows, size)?;
-        check_length(work, 2 * size)?;
-        let State::Idle = self.state else {
-            return Err(TableFault::NotIdle);
-        };
-        if instance >= size {
-            return Err(TableFault::NoInstance);
-        }
-        let row = rows[instance];
+        let row = self.asked_row(system, rows, work, instance)?;
         if row.mark == Mark::Final {
             return Ok(Answer {
                 value: row.value,
@@ -219,10 +238,7 @@ impl Table {
     {
         let size = system.size();
         check_length(rows, size)?;
-        if instance >= size {
-            return Err(TableFault::NoInstance);
-        }
-        let row = rows[instance];
+        let row = row_of(rows, size, instance)?;
         match row.mark {
             Mark::Final => Ok(row.value),
             Mark::Untouched | Mark::Pending => Err(TableFault::NotFinal),

@@ -323,3 +323,67 @@ fn too_few_rows_in_a_session(rt: HostRuntime) -> Result<(), Fail> {
     assert_eq!(rt; lent.demand(0), Err(10));
     Ok(())
 }
+
+// What is refused in a session of instance 0, by numbers below and past the last instance: calls are refused for the state first.
+fn refused_in_a_session(lent: &mut Lent) -> [Result<(), u8>; 4] {
+    [
+        lent.open_and_give_up(9),
+        lent.demand(9),
+        lent.read(9),
+        lent.read(0),
+    ]
+}
+
+#[test]
+fn refused_while_iterating(rt: HostRuntime) -> Result<(), Fail> {
+    let heap = rt.alloc();
+    let mut lent = lend(heap, 10)?;
+    let session = lent.open(0)?;
+    let expected = [Err(13), Err(13), Err(12), Err(16)];
+    assert_eq!(rt; refused_in_a_session(&mut lent), expected);
+    lent.work.truncate(9);
+    assert_eq!(rt; lent.open_and_give_up(9), Err(10));
+    assert_eq!(rt; lent.demand(9), Err(10));
+    assert_eq!(rt; lent.give_up(session), 2);
+    Ok(())
+}
+
+#[test]
+fn refused_while_settled(rt: HostRuntime) -> Result<(), Fail> {
+    let heap = rt.alloc();
+    let mut lent = lend(heap, 10)?;
+    let session = lent.open(0)?;
+    let (_, session) = lent.settle(session)?;
+    let expected = [Err(13), Err(13), Err(12), Err(16)];
+    assert_eq!(rt; refused_in_a_session(&mut lent), expected);
+    lent.rows.truncate(4);
+    assert_eq!(rt; lent.close(session), Err(10));
+    Ok(())
+}
+
+// Brings a session to a table that is in a session of another instance, which is then given up.
+fn bring_meanwhile<P: Phase>(
+    lent: &mut Lent,
+    other: &mut Lent,
+    session: Session<P>,
+) -> Result<(u8, Result<(usize, u32), u8>), Fail> {
+    let brought = bring(lent, other);
+    other.give_up(session);
+    brought
+}
+
+#[test]
+fn sessions_of_another_instance(rt: HostRuntime) -> Result<(), Fail> {
+    let heap = rt.alloc();
+    let mut lent = lend(heap, 10)?;
+    let mut another = lend(heap, 10)?;
+    let mut other = lend(heap, 10)?;
+    let session = other.open(1)?;
+    let iterating = bring_meanwhile(&mut lent, &mut other, session)?;
+    assert_eq!(rt; iterating, (17, Err(17)));
+    let session = other.open(1)?;
+    let (_, session) = other.settle(session)?;
+    let settled = bring_meanwhile(&mut another, &mut other, session)?;
+    assert_eq!(rt; settled, (17, Err(17)));
+    Ok(())
+}

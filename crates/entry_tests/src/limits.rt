@@ -16,6 +16,7 @@ fn sized(
     push_names(&mut file, 0, terminals)?;
     push_names(&mut file, 1000, nonterminals)?;
     push_count(&mut file, productions)?;
+    // By number, since only the first production has names; a chain of one and then none would say it longer.
     for i in 0..productions {
         file.extend_from_slice(&numbered_name(1000))?;
         push_names(&mut file, 0, if i == 0 { right } else { 0 })?;

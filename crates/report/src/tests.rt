@@ -9,6 +9,7 @@ use entry_format::fault::LoadFault;
 use std::alloc::{AllocError, Global};
 use std::test::Fail;
 
+// A loop, since each string is allocated: in a chain the closure's result would have to be written out.
 fn strings(heap: Global, words: &[&str]) -> Result<Vec<String>, AllocError> {
     let mut strings = Vec::new(heap);
     for word in words {

@@ -5,10 +5,12 @@ use mathlib.Core.HLevel.{×_prop, Unit-prop, ⊥_prop}
 use mathlib.Core.Logic.{∥∥₁_elim}
 use native.Mathlib.Nat.{ℕ_set}
 use Rattle.std.specs.List.{AllByRecursion}
+use Rattle.std.proofs.lemmas.List.{length-map}
 use Rattle.std.proofs.lemmas.Bool.{cases_lt}
 use Rattle.entry_format.specs.Grammars.{symbols}
 use Rattle.entry_format.specs.Names.{same_name, Distinct}
 use Rattle.entry_format.specs.Reading.{NameModel}
+use Rattle.entry_reader.specs.Reads.{name_of}
 use Rattle.entries.specs.declared.grammar.Grammar.{Grammar}
 use Rattle.entries.specs.declared.production.Production.{Production}
 use Rattle.entries.specs.Loaded.{Tiles}
@@ -35,6 +37,20 @@ module _ (g : Grammar) where
   -- no two symbols have equal names
   pub distinct : Distinct (symbols (grammar_of g))
   distinct = ∥∥₁_elim g.loaded (distinct_prop (symbols (grammar_of g))) (λ l. l.lawful.distinct)
+
+  pub few_terminals : vec_len g.terminals ≤ 63
+  few_terminals =
+      ⊎_elim
+      (λ more. absurd (∥∥₁_elim g.loaded ⊥_prop (λ l. omega (arith, l.lawful.few_terminals, length-map (vec_items g.terminals) name_of, g.terminals.ok.0))))
+      (λ few. few)
+      (cases_lt 63 (vec_len g.terminals))
+
+  pub few_nonterminals : vec_len g.nonterminals ≤ 64
+  few_nonterminals =
+      ⊎_elim
+      (λ more. absurd (∥∥₁_elim g.loaded ⊥_prop (λ l. omega (arith, l.lawful.few_nonterminals, length-map (vec_items g.nonterminals) name_of, g.nonterminals.ok.0))))
+      (λ few. few)
+      (cases_lt 64 (vec_len g.nonterminals))
 
   pub few_references : vec_len g.references ≤ 1024
   few_references =

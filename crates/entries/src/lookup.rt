@@ -18,7 +18,8 @@ pub(crate) fn position_of(names: &[Name], name: &Name) -> Option<usize>
 pub(crate) fn check_new(earlier: &[Name], later: &[Name], name: &Name) -> Result<(), NameFault>
     ensures { result ≡ loader_checks.declares (map name_of earlier.now ++ map name_of later.now) (name_of name.now) }
 {
-    if earlier.iter().chain(later).any(|other| other.equals(name)) {
+    // One search after the other: a chain tests at each name which of the two it is in.
+    if position_of(earlier, name).is_some() || position_of(later, name).is_some() {
         return Err(NameFault::Duplicate {
             place: name.place(),
         });

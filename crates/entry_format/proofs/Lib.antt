@@ -3,6 +3,7 @@ pub mod Series
 pub mod Fields
 pub mod Equality
 pub mod Positions
+pub mod PositionAppend
 pub mod Sections
 pub mod Fitting
 pub mod Exact

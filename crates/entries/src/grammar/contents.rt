@@ -9,6 +9,7 @@ ghost use Rattle.entries.specs.Loaded.{production_of, Tiles};
 ghost use Rattle.entries.specs.Models.{grammar_of};
 
 use crate::grammar::Grammar;
+use crate::lookup::position_of;
 use crate::production::Production;
 use entry_reader::name::Name;
 
@@ -52,20 +53,25 @@ impl<'a> Grammar<'a> {
     pub fn symbol_name(&self, symbol: usize) -> Option<Name<'a>>
         ensures { option_map name_of result ≡ slice_get (symbols (grammar_of self.now)) symbol }
     {
-        self.terminals
-            .iter()
-            .chain(&self.nonterminals)
-            .nth(symbol)
-            .copied()
+        // Not `nth` of a chain, which goes through the names before it.
+        let terminals = self.terminals.len();
+        if symbol < terminals {
+            return self.terminals.get(symbol).copied();
+        }
+        self.nonterminals.get(symbol - terminals).copied()
     }
 
     // The number of the symbol of equal name; terminals come first.
     pub fn symbol_of(&self, name: &Name) -> Option<usize>
         ensures { result ≡ position (symbols (grammar_of self.now)) (name_of name.now) }
     {
-        self.terminals
-            .iter()
-            .chain(&self.nonterminals)
-            .position(|other| other.equals(name))
+        // One search after the other: a chain tests at each name which of the two it is in.
+        match position_of(&self.terminals, name) {
+            Some(symbol) => Some(symbol),
+            None => {
+                let symbol = position_of(&self.nonterminals, name)?;
+                Some(self.terminals.len() + symbol)
+            }
+        }
     }
 }

@@ -1,23 +1,15 @@
-use Rattle.std.proofs.Common.{sym, ◌∙◌, rules, tests}
-use Rattle.std.proofs.lemmas.Iterator.{YieldsList-from_slice}
-use Rattle.std.proofs.lemmas.Iterator.Consumers.{YieldsList-from_chain}
-use Rattle.std.proofs.lemmas.Iterator.Search.{any_from_yields_List}
+use Rattle.std.proofs.Common.{map, rules}
+use Rattle.entry_format.proofs.PositionAppend.{found_append}
 use Rattle.entry_reader.specs.Reads.{name_of}
-use Rattle.entries.proofs.Found.{equals, found_in_both}
 use Rattle.entries.proofs.lookup.check_new.Goals as goal
+use Rattle.entries.proofs.lookup.check_new.Goals.{then-is_some-via-then-is_some, then-is_some-via-else-is_some+then-is_some-2}
 
-pub returns-then-any : goal.returns-then-any
-returns-then-any c =
-    let earlier = c.args.earlier.now in
-    let later = c.args.later.now in
-    let n = name_of c.args.name.now in
-    let found = any_from_yields_List (equals n) _ _ c.any.result c.any.ensures.ran (YieldsList-from_chain (YieldsList-from_slice earlier (cc)) (YieldsList-from_slice later (cc)) (cc) (cc)) (λ x b q k. search (rules, tests)) ∙ sym (found_in_both earlier later n) in
-    search (rules, found)
+pub returns-then-is_some : goal.returns-then-is_some
+returns-then-is_some c =
+    let e = found_append (map name_of c.args.earlier.now) (map name_of c.args.later.now) (name_of c.args.name.now) in
+    search (rules, e)
 
 pub returns : goal.returns
 returns c =
-    let earlier = c.args.earlier.now in
-    let later = c.args.later.now in
-    let n = name_of c.args.name.now in
-    let found = any_from_yields_List (equals n) _ _ c.any.result c.any.ensures.ran (YieldsList-from_chain (YieldsList-from_slice earlier (cc)) (YieldsList-from_slice later (cc)) (cc) (cc)) (λ x b q k. search (rules, tests)) ∙ sym (found_in_both earlier later n) in
-    search (rules, found)
+    let e = found_append (map name_of c.args.earlier.now) (map name_of c.args.later.now) (name_of c.args.name.now) in
+    search (rules, e)

@@ -21,6 +21,10 @@ impl<V: Lattice> Family<V> for Values<'_, V> {
     ghost value = { λ s j. slice_index_or s.list.now j V.Lattice.bot };
 
     fn value(&self, instance: usize) -> V {
-        self.list.get(instance).copied().unwrap_or(V::bottom())
+        // A match, since the bottom is made only where there is no value.
+        match self.list.get(instance) {
+            Some(value) => *value,
+            None => V::bottom(),
+        }
     }
 }

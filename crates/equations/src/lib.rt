@@ -8,6 +8,7 @@ use lattices::Lattice;
 use references::Dangling;
 
 pub mod family;
+mod listed;
 pub mod work;
 
 // Equations over the values of a lattice, for instances numbered from 0.

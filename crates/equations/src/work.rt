@@ -5,7 +5,8 @@ ghost use Rattle.equations.specs.Theory.{Theory};
 ghost use Rattle.equations.specs.Worked.{worked};
 
 use crate::System;
-use crate::family::{Family, Values};
+use crate::family::Family;
+use crate::listed::listed_value;
 use lattices::Lattice;
 
 // The value of the equation of `instance` over the lent values, or none if there are fewer values than instances.
@@ -13,8 +14,10 @@ pub fn work<S: System>(system: &S, values: &[S::Value], instance: usize) -> Opti
     ensures value { result ≡ worked S.Value.Lattice.bot (S.System.equations system.now) values.now instance }
     ensures theory { Theory S.Value.Lattice.bot S.Value.Lattice.le S.Value.Lattice.same S.Value.Lattice.height (S.System.equations system.now) }
 {
-    let enough = system.size() <= values.len();
-    enough.then(|| equation_value(system, &Values { list: values }, instance))
+    if values.len() < system.size() {
+        return None;
+    }
+    Some(listed_value(system, values, instance))
 }
 
 // The value of the equation of `instance` over a family of values.

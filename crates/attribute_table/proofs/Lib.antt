@@ -3,4 +3,5 @@ pub mod Sweeps
 pub mod Iterating
 pub mod RowsAfter
 pub mod Calls
+mod Counting
 pub mod Outcomes

@@ -1,6 +1,6 @@
 // What calls do to the rows.
 ghost use Rattle.std.specs.Prelude.{◌≡◌, ℕ, ◌<◌, ◌≤◌, length, ◌==◌, slice_index};
-ghost use Rattle.equations.specs.Equations.{Lawful};
+ghost use Rattle.equations.specs.Equations.{Lawful, equation};
 ghost use Rattle.table_model.specs.Rows.{row, values};
 ghost use Rattle.table_model.specs.declared.row.Mark.TheVariants.{Untouched};
 ghost use Rattle.table_model.specs.declared.row.Row.{Row};
@@ -8,8 +8,6 @@ ghost use Rattle.attribute_table.specs.Effects.{opened_row, closed_row, released
 ghost use Rattle.attribute_table.specs.Lent.{rows_of};
 
 use equations::System;
-use equations::family::Family;
-use equations::work::equation_value;
 use lattices::Lattice;
 use reach_search::is_marked;
 use table_model::row::{Mark, Row};
@@ -65,16 +63,19 @@ pub(crate) fn open_rows<V: Lattice>(rows: &mut [Row<V>], marks: &[usize])
 }
 
 // Replaces each pending row by what `by` makes of it. Answers how many there were.
+// A loop of its own: one pass counts, and writes the pending rows alone.
 fn replace_pending<V: Lattice, F: Fn(Row<V>) -> Row<V>>(rows: &mut [Row<V>], by: F) -> usize
     requires { (r : Row V) → F.pre by r }
     ensures rows { EachReplaced V.Lattice.bot (length rows.old) (λ _. PendingReplaced (F.post by)) rows.old rows.new }
     ensures count { result ≡ pending_rows rows.old }
 {
-    let count = rows.iter().filter(|row| row.mark == Mark::Pending).count();
-    replace_each(rows, |_, row| match row.mark {
-        Mark::Pending => by(row),
-        Mark::Untouched | Mark::Final => row,
-    });
+    let mut count = 0;
+    for row in rows.iter_mut() {
+        if row.mark == Mark::Pending {
+            *row = by(*row);
+            count += 1;
+        }
+    }
     count
 }
 
@@ -100,27 +101,30 @@ pub(crate) fn release<V: Lattice>(rows: &mut [Row<V>]) -> usize
     replace_pending(rows, |_| untouched())
 }
 
-// The values in the rows, the bottom past their end.
-#[derive(Clone, Copy)]
-struct RowValues<'a, V> {
-    rows: &'a [Row<V>],
-}
-
-impl<V: Lattice> Family<V> for RowValues<'_, V> {
-    ghost value = { λ s. values (rows_of V.Lattice.bot s.rows.now) };
-
-    fn value(&self, instance: usize) -> V {
-        self.rows.get(instance).map_or(V::bottom(), |row| row.value)
+// The value of the equation of `instance` over the values in the rows.
+// A loop of its own, and not `equation_value` over a `Family` of rows, which tests each operand against the end of the rows.
+fn value_over_rows<S: System>(system: &S, rows: &[Row<S::Value>], instance: usize) -> S::Value
+    requires { (S.System.equations system.now).size ≤ length rows.now }
+    ensures { result ≡ equation (S.System.equations system.now) (values (rows_of S.Value.Lattice.bot rows.now)) instance }
+{
+    let mut so_far = system.start(instance);
+    for k in 0..system.operand_count(instance) {
+        if let Ok(j) = system.operand(instance, k) {
+            let row = rows[j];
+            so_far = system.step(instance, k, so_far, row.value);
+        }
     }
+    so_far
 }
 
 // Gives a pending row its equation's value. Tells whether that is another value.
 fn evaluate<S: System>(system: &S, rows: &mut [Row<S::Value>], instance: usize) -> bool
+    requires { (S.System.equations system.now).size ≤ length rows.old }
     ensures { EvaluatedAt S.Value.Lattice.bot S.Value.Lattice.same (S.System.equations system.now) instance rows.old rows.new result }
 {
     match rows.get(instance) {
         Some(&row) if row.mark == Mark::Pending => {
-            let value = equation_value(system, &RowValues { rows }, instance);
+            let value = value_over_rows(system, rows, instance);
             rows[instance] = Row {
                 mark: row.mark,
                 value,
@@ -134,6 +138,7 @@ fn evaluate<S: System>(system: &S, rows: &mut [Row<S::Value>], instance: usize) 
 // Gives each pending row its equation's value, in ascending number. Answers how many values changed.
 // A loop with a counter: after a closure that changes the rows nothing would be known of them.
 pub(crate) fn evaluate_all<S: System>(system: &S, rows: &mut [Row<S::Value>]) -> usize
+    requires { (S.System.equations system.now).size ≤ length rows.old }
     ensures { Evaluated S.Value.Lattice.bot S.Value.Lattice.same (S.System.equations system.now) (S.System.equations system.now).size rows.old rows.new result }
 {
     let mut changed = 0;
@@ -147,6 +152,7 @@ pub(crate) fn evaluate_all<S: System>(system: &S, rows: &mut [Row<S::Value>]) ->
 
 // Rounds until one changes nothing. Answers how many, that one too.
 pub(crate) fn iterate<S: System>(system: &S, rows: &mut [Row<S::Value>]) -> u32
+    requires rows { (S.System.equations system.now).size ≤ length rows.old }
     requires lawful { Lawful S.Value.Lattice.bot S.Value.Lattice.le (S.System.equations system.now) }
     requires bottom { PendingAtBottom S.Value.Lattice.bot S.Value.Lattice.same (S.System.equations system.now) rows.old }
     ensures { Iterated S.Value.Lattice.bot S.Value.Lattice.same (S.System.equations system.now) rows.old rows.new result }

@@ -36,6 +36,7 @@ iterate-rounds-requires g c =
     let e = g.S.System.equations c.args.system.now in
     let opens = each_lent _ c.size-size.ensures.size _ (omega arith) c.open_rows.ensures in
     record {
+      rows = omega (arith, opens.length, enough.0);
       lawful = lawful_by c.size-size.ensures.bottom c.size-size.ensures.order (g.S.System.lawful c.args.system.now);
       bottom = pending_at_bottom g.S.Value.Lattice.bot e g.S.Value.Lattice.same c.reach.new.work opens;
     }

@@ -1,3 +1,4 @@
+pub mod Actions
 pub mod Commands
 pub mod Lines
 pub mod Reports

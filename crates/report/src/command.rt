@@ -1,8 +1,9 @@
 // The command line.
-ghost use Rattle.std.specs.Prelude.{◌≡◌, Some, codes, string_bytes};
+ghost use Rattle.std.specs.Prelude.{◌≡◌, Some, codes, map, string_bytes};
 ghost use Rattle.std.specs.Result.{result_ok};
 ghost use Rattle.report.specs.declared.command.TheConstants.{USAGE};
-ghost use Rattle.report.specs.Commands.{asked, command_of, format_named, formatted, report_of};
+ghost use Rattle.report.specs.Actions.{action_of, asked, format_named, formatted, report_of};
+ghost use Rattle.report.specs.Commands.{command_of};
 
 use std::error::Error;
 use std::fmt;
@@ -22,15 +23,28 @@ pub enum Format {
     Tsv,
 }
 
+// What the arguments ask for. It borrows nothing of them.
 #[derive(Clone, Copy, Debug, PartialEq, Eq)]
-pub enum Command<'a> {
+pub enum Command {
+    // Report on a sample grammar.
+    Sample,
+    Help,
+    // Report on the files, which are the arguments from number `first` on.
+    Report { format: Format, first: usize },
+    // The arguments are none of these.
+    Usage,
+}
+
+// What the arguments ask for, with the files themselves.
+#[derive(Clone, Copy, Debug, PartialEq, Eq)]
+pub enum Action<'a> {
     // Report on a sample grammar.
     Sample,
     Help,
     Report { format: Format, files: &'a [String] },
 }
 
-// The arguments ask for no command.
+// The arguments ask for nothing.
 #[derive(Clone, Copy, Debug, PartialEq, Eq)]
 pub struct UsageError;
 
@@ -59,11 +73,11 @@ impl FromStr for Format {
 }
 
 // The arguments after `--format`.
-fn parse_formatted(args: &[String]) -> Result<Command<'_>, UsageError>
+fn parse_formatted(args: &[String]) -> Result<Action<'_>, UsageError>
     ensures { asked result ≡ formatted string_bytes args.now }
 {
     match args {
-        [format, files @ ..] if !files.is_empty() => Ok(Command::Report {
+        [format, files @ ..] if !files.is_empty() => Ok(Action::Report {
             format: format.parse()?,
             files,
         }),
@@ -72,13 +86,13 @@ fn parse_formatted(args: &[String]) -> Result<Command<'_>, UsageError>
 }
 
 // The arguments after `report`.
-fn parse_report(args: &[String]) -> Result<Command<'_>, UsageError>
+fn parse_report(args: &[String]) -> Result<Action<'_>, UsageError>
     ensures { asked result ≡ report_of string_bytes args.now }
 {
     match args {
         [] => Err(UsageError),
         [word, rest @ ..] if word.as_str() == "--format" => parse_formatted(rest),
-        files => Ok(Command::Report {
+        files => Ok(Action::Report {
             format: Format::Text,
             files,
         }),
@@ -86,15 +100,30 @@ fn parse_report(args: &[String]) -> Result<Command<'_>, UsageError>
 }
 
 // The arguments after the program's name.
-pub fn parse(args: &[String]) -> Result<Command<'_>, UsageError>
-    ensures { asked result ≡ command_of string_bytes args.now }
+pub fn parse_action(args: &[String]) -> Result<Action<'_>, UsageError>
+    ensures { asked result ≡ action_of string_bytes args.now }
 {
     let [word, rest @ ..] = args else {
-        return Ok(Command::Sample);
+        return Ok(Action::Sample);
     };
     match word.as_str() {
-        "help" if rest.is_empty() => Ok(Command::Help),
+        "help" if rest.is_empty() => Ok(Action::Help),
         "report" => parse_report(rest),
         _ => Err(UsageError),
+    }
+}
+
+// The same, and it cannot fail.
+pub fn parse(args: &[String]) -> Command
+    ensures { result ≡ command_of (map string_bytes args.now) }
+{
+    match parse_action(args) {
+        Ok(Action::Sample) => Command::Sample,
+        Ok(Action::Help) => Command::Help,
+        Ok(Action::Report { format, files }) => Command::Report {
+            format,
+            first: args.len() - files.len(),
+        },
+        Err(UsageError) => Command::Usage,
     }
 }

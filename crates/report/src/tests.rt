@@ -1,5 +1,5 @@
 // Command lines, and lines that are written, on examples.
-use crate::command::{Command, Format, UsageError, parse};
+use crate::command::{Action, Command, Format, UsageError, parse, parse_action};
 use crate::lines::refusal_line;
 use crate::reports::text_report;
 use entries::grammar::GrammarMemory;
@@ -18,8 +18,39 @@ fn strings(heap: Global, words: &[&str]) -> Result<Vec<String>, AllocError> {
     Ok(strings)
 }
 
+fn parse_words(heap: Global, words: &[&str]) -> Result<Command, AllocError> {
+    let args = strings(heap, words)?;
+    Ok(parse(&args))
+}
+
 #[test]
 fn parses_command_lines(rt: HostRuntime) -> Result<(), Fail> {
+    let heap = rt.alloc();
+    assert_eq!(rt; parse_words(heap, &[])?, Command::Sample);
+    assert_eq!(rt; parse_words(heap, &["help", "report"])?, Command::Usage);
+    assert_eq!(rt;
+        parse_words(heap, &["report", "a", "b"])?,
+        Command::Report {
+            format: Format::Text,
+            first: 1,
+        }
+    );
+    assert_eq!(rt;
+        parse_words(heap, &["report", "--format", "tsv", "a"])?,
+        Command::Report {
+            format: Format::Tsv,
+            first: 3,
+        }
+    );
+    assert_eq!(rt;
+        parse_words(heap, &["report", "--format", "tsv"])?,
+        Command::Usage
+    );
+    Ok(())
+}
+
+#[test]
+fn parses_files(rt: HostRuntime) -> Result<(), Fail> {
     let heap = rt.alloc();
     let cases: [(&[&str], Format, &[&str]); 2] = [
         (&["report", "a", "b"], Format::Text, &["a", "b"]),
@@ -29,8 +60,8 @@ fn parses_command_lines(rt: HostRuntime) -> Result<(), Fail> {
         let args = strings(heap, words)?;
         let files = strings(heap, files)?;
         assert_eq!(rt;
-            parse(&args),
-            Ok(Command::Report {
+            parse_action(&args),
+            Ok(Action::Report {
                 format,
                 files: &files
             })
@@ -42,11 +73,11 @@ fn parses_command_lines(rt: HostRuntime) -> Result<(), Fail> {
 #[test]
 fn parses_no_files(rt: HostRuntime) -> Result<(), Fail> {
     let heap = rt.alloc();
-    assert_eq!(rt; parse(&[]), Ok(Command::Sample));
+    assert_eq!(rt; parse_action(&[]), Ok(Action::Sample));
     let help = strings(heap, &["help", "report"])?;
-    assert_eq!(rt; parse(&help), Err(UsageError));
+    assert_eq!(rt; parse_action(&help), Err(UsageError));
     let format = strings(heap, &["report", "--format", "tsv"])?;
-    assert_eq!(rt; parse(&format), Err(UsageError));
+    assert_eq!(rt; parse_action(&format), Err(UsageError));
     Ok(())
 }
 

@@ -5,7 +5,7 @@ use entries::grammar::load::load_grammar;
 use entries::grammar::{Grammar, GrammarMemory};
 use entries::sample::sample_grammar;
 use entry_format::fault::LoadFault;
-use report::command::{Command, Format, USAGE, parse};
+use report::command::{Action, Format, USAGE, parse_action};
 use report::lines::{entry_row, refusal_line, refusal_row};
 use report::reports::text_report;
 use std::process::ExitCode;
@@ -74,19 +74,19 @@ impl Reporter<'_> {
 // Does what the arguments ask for, and tells whether it succeeded.
 fn run(rt: &HostRuntime) -> io::Result<bool> {
     let args: Vec<String> = env::args(rt)?.skip(1).collect(rt.alloc())?;
-    match parse(&args) {
-        Ok(Command::Sample) => {
+    match parse_action(&args) {
+        Ok(Action::Sample) => {
             let reporter = Reporter {
                 rt,
                 format: Format::Text,
             };
             reporter.report_bytes("sample", sample_grammar())
         }
-        Ok(Command::Help) => {
+        Ok(Action::Help) => {
             rt.print(USAGE)?;
             Ok(true)
         }
-        Ok(Command::Report { format, files }) => Reporter { rt, format }.report_files(files),
+        Ok(Action::Report { format, files }) => Reporter { rt, format }.report_files(files),
         Err(error) => {
             rt.eprint(error)?;
             Ok(false)

@@ -6,8 +6,8 @@ use crate::System;
 use lattices::Lattice;
 
 // The value of the equation of `instance` over the lent values, where there are values enough.
-// A loop of its own, and not `equation_value` over `Values`, which tests each operand against the end of the list:
-// where operands are read from memory that took 1.3 to 1.7 times as long.
+// A loop of its own, and not `equation_value` over `Values`, which tests each operand against the end of the list: where
+// steps are cheap that took up to three times as long.
 pub(crate) fn listed_value<S: System>(system: &S, values: &[S::Value], instance: usize) -> S::Value
     requires { (S.System.equations system.now).size ≤ length values.now }
     ensures { result ≡ equation (S.System.equations system.now) (λ j. slice_index_or values.now j S.Value.Lattice.bot) instance }
